@@ -1,0 +1,4 @@
+pub mod Lists
+pub mod Law
+pub mod Calls
+pub mod Basins

@@ -1,0 +1,179 @@
+// The calls on a basin. Each says what it does to what can be seen, and to the bank and the channel themselves.
+ghost use mathlib.Core.Path.{_≡_};
+ghost use Prim.Native.Nat.{ℕ, _+_};
+ghost use Rattle.std.specs.Results.{Cases};
+ghost use Rattle.refusals.specs.Limits.{Answers};
+ghost use Rattle.storages.specs.Meaning.{Out};
+ghost use Rattle.banks.specs.Rows.{at};
+ghost use Rattle.basin.specs.Law.{held, New, Law, byRain, byTurn, byDraw, byPour, byClosing, byQuestion};
+ghost use Rattle.basin.specs.Calls.{Called, openingLimits, rainLimits, pourLimits};
+ghost use Rattle.basin.specs.Basins.{view, Sound, RainMoved, TurnMoved, Rested};
+use crate::book::Book;
+use crate::book::Sums;
+use crate::parcel::Parcel;
+use banks::Bank;
+use refusals::Refusal;
+use storages::Storage;
+use storages::Tapped;
+
+// A bank over a channel. Water that the bank releases waits in the pocket until the channel takes it.
+#[derive(Drop)]
+pub struct Basin<B: Bank, C: Tapped> {
+    bank: B,
+    channel: C,
+    pocket: u64,
+    sums: Sums,
+}
+
+// The most rain and poured water of one book.
+const PAGE: u64 = 1_000_000_000_000_000;
+
+impl<B: Bank, C: Tapped> Basin<B, C> {
+    // Opens a basin with all that its bank and its channel hold. From here on its books balance, whatever is called.
+    pub fn open(bank: B, channel: C) -> Result<Basin<B, C>, Refusal>
+        where B: Drop, C: Drop
+        requires bank { ⌜ B·Bank .sound bank ⌝ }
+        requires channel { ⌜ C·Storage .sound channel ⌝ }
+        ensures opened { λ r. ⌜ Answers (openingLimits (B·Bank .tracts bank) (C·Storage .holds channel) (C·Storage .limit channel)) r (λ b. Sound B·Bank C·Storage b × New (view B·Bank C·Storage b) × (b .bank ≡ bank) × (b .channel ≡ channel)) (Unit {0}) ⌝ }
+        ensures law { λ r. ⌜ Cases r (λ b. Law Called (view B·Bank C·Storage b)) (λ _. Unit {0}) ⌝ }
+    {
+        let opening = bank.volume() + channel.content();
+        if opening > channel.ceiling() {
+            return Err(Refusal::OpeningAboveCeiling);
+        }
+        Ok(Basin { bank, channel, pocket: 0, sums: Sums::fresh(opening) })
+    }
+
+    // All water held: on the bank, in the pocket and in the channel.
+    fn held(&self) -> u64
+        requires { ⌜ Sound B·Bank C·Storage (now self) ⌝ }
+        ensures { λ r. ⌜ r ≡ held (view B·Bank C·Storage (now (self .entry))) ⌝ }
+    {
+        self.bank.volume() + self.pocket + self.channel.content()
+    }
+
+    // The checks of a rain, in their order; answers the segment's area.
+    fn admit(&self, segment: u64, depth: u64, demand: u64) -> Result<u64, Refusal>
+        requires { ⌜ Sound B·Bank C·Storage (now self) ⌝ }
+        ensures { λ r. ⌜ Answers (rainLimits (view B·Bank C·Storage (now (self .entry))) segment depth demand) r (λ a. a ≡ at (B·Bank .tracts (now (self .entry) .bank)) segment .area) (Unit {0}) ⌝ }
+    {
+        if segment >= self.bank.count() {
+            return Err(Refusal::NoSuchSegment(segment));
+        }
+        if depth > 15_000_000 {
+            return Err(Refusal::RainAboveLimit(segment));
+        }
+        if demand > 1_000_000 {
+            return Err(Refusal::DemandAboveLimit(segment));
+        }
+        if depth > self.bank.ceiling(segment) - self.bank.content(segment) {
+            return Err(Refusal::StorageFull(segment));
+        }
+        let area = self.bank.area(segment);
+        let fall = depth * area;
+        if fall > self.channel.ceiling() - self.held() {
+            return Err(Refusal::BasinFull(segment));
+        }
+        if fall > PAGE - (self.sums.rain + self.sums.poured) {
+            return Err(Refusal::BookFull(segment));
+        }
+        Ok(area)
+    }
+
+    // Rain on one segment: answers what ran off, evaporated and was lost deep, as volumes. What ran off joins the pocket.
+    pub fn rain(&mut self, segment: u64, depth: u64, demand: u64) -> Result<(u64, u64, u64), Refusal>
+        requires { ⌜ Sound B·Bank C·Storage (now self) ⌝ }
+        ensures sound { λ _. ⌜ Sound B·Bank C·Storage (now (self .exit)) ⌝ }
+        ensures called { λ r. ⌜ Called (view B·Bank C·Storage (now (self .entry))) (byRain segment depth demand r) (view B·Bank C·Storage (now (self .exit))) ⌝ }
+        ensures moved { λ r. ⌜ Cases r (λ o. RainMoved B·Bank (now (self .entry)) segment depth demand o (now (self .exit))) (λ _. now (self .exit) ≡ now (self .entry)) ⌝ }
+    {
+        let area = self.admit(segment, depth, demand)?;
+        match self.bank.rain(segment, depth, demand) {
+            Ok((release, evaporated, deep)) => {
+                self.pocket += release * area;
+                self.sums.rain += depth * area;
+                self.sums.evaporated += evaporated * area;
+                self.sums.deep += deep * area;
+                Ok((release * area, evaporated * area, deep * area))
+            }
+            Err(_) => unreachable(),
+        }
+    }
+
+    // The channel takes the pocket: answers streamflow and deep loss.
+    pub fn turn(&mut self) -> (u64, u64)
+        requires { ⌜ Sound B·Bank C·Storage (now self) ⌝ }
+        ensures sound { λ _. ⌜ Sound B·Bank C·Storage (now (self .exit)) ⌝ }
+        ensures called { λ r. ⌜ Called (view B·Bank C·Storage (now (self .entry))) (byTurn (r .0) (r .1)) (view B·Bank C·Storage (now (self .exit))) ⌝ }
+        ensures moved { λ r. ⌜ TurnMoved C·Storage (now (self .entry)) (r .0) (r .1) (now (self .exit)) ⌝ }
+    {
+        let pocket = self.pocket;
+        match self.channel.step(pocket, 0) {
+            Ok((release, _evaporated, deep)) => {
+                self.pocket = 0;
+                self.sums.streamflow += release;
+                self.sums.deep += deep;
+                (release, deep)
+            }
+            Err(_) => unreachable(),
+        }
+    }
+
+    // Takes channel water as a parcel.
+    pub fn draw(&mut self, amount: u64) -> Result<Parcel, Refusal>
+        requires { ⌜ Sound B·Bank C·Storage (now self) ⌝ }
+        ensures sound { λ _. ⌜ Sound B·Bank C·Storage (now (self .exit)) ⌝ }
+        ensures called { λ r. ⌜ Called (view B·Bank C·Storage (now (self .entry))) (byDraw amount r) (view B·Bank C·Storage (now (self .exit))) ⌝ }
+        ensures moved { λ r. ⌜ Cases r (λ _. C·Tapped .draws (now (self .entry) .channel) amount (now (self .exit) .channel) × (now (self .exit) .bank ≡ now (self .entry) .bank)) (λ _. now (self .exit) ≡ now (self .entry)) ⌝ }
+    {
+        if amount == 0 {
+            return Err(Refusal::DrawAmount);
+        }
+        self.channel.draw(amount)?;
+        self.sums.drawn += amount;
+        Ok(Parcel { amount })
+    }
+
+    // Empties a parcel into the pocket.
+    pub fn pour(&mut self, parcel: &mut Parcel) -> Result<(), Refusal>
+        requires { ⌜ Sound B·Bank C·Storage (now self) ⌝ }
+        ensures sound { λ _. ⌜ Sound B·Bank C·Storage (now (self .exit)) ⌝ }
+        ensures called { λ r. ⌜ Called (view B·Bank C·Storage (now (self .entry))) (byPour (now (parcel .entry) .amount) r) (view B·Bank C·Storage (now (self .exit))) ⌝ }
+        ensures moved { λ r. ⌜ Cases r (λ _. Rested (now (self .entry)) (now (self .exit)) × (now (parcel .exit) .amount ≡ 0)) (λ _. (now (self .exit) ≡ now (self .entry)) × (now (parcel .exit) ≡ now (parcel .entry))) ⌝ }
+    {
+        let amount = parcel.amount;
+        if amount == 0 {
+            return Err(Refusal::EmptyParcel);
+        }
+        if amount > self.channel.ceiling() - self.held() {
+            return Err(Refusal::BasinFull(0));
+        }
+        if amount > PAGE - (self.sums.rain + self.sums.poured) {
+            return Err(Refusal::BookFull(0));
+        }
+        self.pocket += amount;
+        self.sums.poured += amount;
+        parcel.amount = 0;
+        Ok(())
+    }
+
+    // The book as a closing would answer it.
+    pub fn question(&self) -> Book
+        requires { ⌜ Sound B·Bank C·Storage (now self) ⌝ }
+        ensures { λ r. ⌜ Called (view B·Bank C·Storage (now (self .entry))) (byQuestion r) (view B·Bank C·Storage (now (self .entry))) ⌝ }
+    {
+        Book { sums: self.sums, held: self.held() }
+    }
+
+    // Answers the book, and begins another with all water held.
+    pub fn closing(&mut self) -> Book
+        requires { ⌜ Sound B·Bank C·Storage (now self) ⌝ }
+        ensures sound { λ _. ⌜ Sound B·Bank C·Storage (now (self .exit)) ⌝ }
+        ensures called { λ r. ⌜ Called (view B·Bank C·Storage (now (self .entry))) (byClosing r) (view B·Bank C·Storage (now (self .exit))) ⌝ }
+        ensures moved { λ _. ⌜ Rested (now (self .entry)) (now (self .exit)) ⌝ }
+    {
+        let book = self.question();
+        self.sums = Sums::fresh(book.held);
+        book
+    }
+}
