@@ -1,19 +1,15 @@
 -- Two rows as one: what holds of a segment of either holds of it in the joined row.
 use mathlib.Core.Path.{_≡_, refl, sym, ap, subst, _∙_}
 use mathlib.Core.List.{List, [], _∷_, _++_}
-use mathlib.Core.Logic.{_⊎_, inl, inr, ⊎-elim}
+use mathlib.Core.Logic.{⊎-elim}
 use Prim.Native.Nat.{ℕ, _+_, _-_, _*_, _<_, _≤_}
 use native.Mathlib.Omega.{arith}
 use lib.ListN.{length, getD, set}
 use Rattle.std.proofs.shelf.Lists.{getD-append-left, getD-append-right, getD-append-add, length-append, set-append-left, set-append-right}
 use Rattle.std.proofs.shelf.Tests.{cases-lt}
-use Rattle.std.specs.declared.result.Result.{Result}
-use Rattle.std.specs.declared.result.Result.the-variants.{Ok, Err}
-use Rattle.refusals.specs.Limits.{Kept, Passed, Answers}
-use Rattle.refusals.specs.declared.Refusal.{Refusal}
-use Rattle.refusals.specs.declared.Refusal.the-variants.{StorageFull}
 use Rattle.storages.specs.Meaning.{Out, Stepped}
-use Rattle.banks.specs.Rows.{Tract, tract, at, volume, Fit, Bounded, Rained, rainLimits}
+use Rattle.banks.specs.Kinds.{Same}
+use Rattle.banks.specs.Rows.{Tract, tract, at, volume, Fit, Bounded, Rained}
 
 pub left : (xs ys : List Tract) (k : ℕ) → k < length xs → at (xs ++ ys) k ≡ at xs k
 left xs ys k h = getD-append-left xs ys (tract 0 0 0) k h
@@ -61,30 +57,6 @@ rained-right xs ys j i d o zs r =
       after = ap (λ l. xs ++ l) (r .after) ∙ ap (λ n. xs ++ set ys n (tract (at ys j .area) (r .content) (at ys j .ceiling))) (sym e) ∙ sym (set-append-right xs ys (length xs) (length xs + j) _ refl (omega arith)) ∙ ap (λ t. set (xs ++ ys) (length xs + j) (tract (t .area) (r .content) (t .ceiling))) (sym (right-at xs ys j));
     }
 
--- the limits of a rain on a segment of the first row
-pub kept-left : (xs ys : List Tract) (k p : ℕ) → Kept (rainLimits xs k p) → Kept (rainLimits (xs ++ ys) k p)
-kept-left xs ys k p h =
-    let l : k < length xs = omega (arith, h .0) in
-    (simp length-append (omega arith), (subst (λ t. t .content + p ≤ t .ceiling) (sym (left xs ys k l)) (h .1 .0), tt))
-
-pub passed-left : (xs ys : List Tract) (k p : ℕ) (f : Refusal) → k < length xs → Passed (rainLimits xs k p) f → Passed (rainLimits (xs ++ ys) k p) f
-passed-left xs ys k p f l h = ⊎-elim
-    (λ a. absurd (omega (arith, a .0)))
-    (λ a. ⊎-elim (λ b. inr (simp length-append (omega arith), inl (subst (λ t. t .ceiling < t .content + p) (sym (left xs ys k l)) (b .0), b .1))) (λ b. absurd (b .1)) (a .1))
-    h
-
--- the limits of a rain on a segment of the second row
-pub kept-right : (xs ys : List Tract) (n k p : ℕ) → length xs ≡ n → n ≤ k → Kept (rainLimits ys (k - n) p) → Kept (rainLimits (xs ++ ys) k p)
-kept-right xs ys n k p e l h =
-    (simp length-append (omega (arith, h .0)), (subst (λ t. t .content + p ≤ t .ceiling) (sym (right xs ys n k e l)) (h .1 .0), tt))
-
-pub passed-right : (xs ys : List Tract) (n k p : ℕ) (f : Refusal) → length xs ≡ n → n ≤ k → k - n < length ys → Passed (rainLimits ys (k - n) p) f → Passed (rainLimits (xs ++ ys) k p) (StorageFull k)
-passed-right xs ys n k p f e l j h = ⊎-elim
-    (λ a. absurd (omega (arith, a .0)))
-    (λ a. ⊎-elim (λ b. inr (simp length-append (omega arith), inl (subst (λ t. t .ceiling < t .content + p) (sym (right xs ys n k e l)) (b .0), refl))) (λ b. absurd (b .1)) (a .1))
-    h
-
--- the answer of a rain on a segment of the first row
-pub answers-left : (xs ys : List Tract) (k p : ℕ) (r : Result Out Refusal) (P Q : Out → Type 0) (K L : Type 0) → k < length xs → ((o : Out) → P o → Q o) → (K → L) → Answers (rainLimits xs k p) r P K → Answers (rainLimits (xs ++ ys) k p) r Q L
-answers-left xs ys k p (Ok o) P Q K L l f g h = (kept-left xs ys k p (h .0), f o (h .1))
-answers-left xs ys k p (Err e) P Q K L l f g h = (passed-left xs ys k p e l (h .0), g (h .1))
+-- figure by figure
+pub same : (t u : Tract) → t ≡ u → Same t u
+same t u e = record { area = ap (λ x. x .area) e; content = ap (λ x. x .content) e; ceiling = ap (λ x. x .ceiling) e }

@@ -1,12 +1,13 @@
 // A pair: two banks as one, the first's segments first.
 ghost use mathlib.Core.Path.{_≡_};
 ghost use mathlib.Core.List.{List, _++_};
-ghost use mathlib.Core.Logic.{_⊎_};
-ghost use Prim.Native.Nat.{ℕ, _≤_};
+ghost use Prim.Native.Nat.{ℕ, _+_, _≤_, _<_};
 ghost use lib.ListN.{length};
+ghost use Rattle.std.specs.Options.{Cases};
 ghost use Rattle.refusals.specs.Limits.{Answers};
 ghost use Rattle.storages.specs.Meaning.{Out};
-ghost use Rattle.banks.specs.Kinds.{Paired, PairRains, pairLimits};
+ghost use Rattle.banks.specs.Rows.{at};
+ghost use Rattle.banks.specs.Kinds.{Paired, PairRains, Placed, pairLimits};
 use crate::meaning::Bank;
 use refusals::Refusal;
 
@@ -14,6 +15,14 @@ use refusals::Refusal;
 pub struct Pair<F: Bank, S: Bank> {
     first: F,
     second: S,
+}
+
+// Where a pair has a segment: in the first bank or the second, by its number there, or nowhere.
+#[derive(Clone, Copy)]
+enum Place {
+    First(u64),
+    Second(u64),
+    Missing,
 }
 
 impl<F: Bank, S: Bank> Pair<F, S> {
@@ -31,6 +40,21 @@ impl<F: Bank, S: Bank> Pair<F, S> {
         }
         Ok(Pair { first, second })
     }
+
+    // Where a segment of the pair is.
+    fn place(&self, segment: u64) -> Place
+        requires { ⌜ Paired F·Bank S·Bank (now self) ⌝ }
+        ensures { λ r. ⌜ Placed (F·Bank .tracts (now (self .entry) .first)) (S·Bank .tracts (now (self .entry) .second)) segment r ⌝ }
+    {
+        let count = self.first.count();
+        if segment < count {
+            return Place::First(segment);
+        }
+        if segment - count < self.second.count() {
+            return Place::Second(segment - count);
+        }
+        Place::Missing
+    }
 }
 
 pub impl<F: Bank, S: Bank> Bank for Pair<F, S> as PairBank {
@@ -45,29 +69,26 @@ pub impl<F: Bank, S: Bank> Bank for Pair<F, S> as PairBank {
     }
 
     fn area(&self, segment: u64) -> u64 {
-        let count = self.first.count();
-        if segment < count {
-            self.first.area(segment)
-        } else {
-            self.second.area(segment - count)
+        match self.place(segment) {
+            Place::First(k) => self.first.area(k),
+            Place::Second(k) => self.second.area(k),
+            Place::Missing => 0,
         }
     }
 
     fn content(&self, segment: u64) -> u64 {
-        let count = self.first.count();
-        if segment < count {
-            self.first.content(segment)
-        } else {
-            self.second.content(segment - count)
+        match self.place(segment) {
+            Place::First(k) => self.first.content(k),
+            Place::Second(k) => self.second.content(k),
+            Place::Missing => 0,
         }
     }
 
     fn ceiling(&self, segment: u64) -> u64 {
-        let count = self.first.count();
-        if segment < count {
-            self.first.ceiling(segment)
-        } else {
-            self.second.ceiling(segment - count)
+        match self.place(segment) {
+            Place::First(k) => self.first.ceiling(k),
+            Place::Second(k) => self.second.ceiling(k),
+            Place::Missing => 0,
         }
     }
 
@@ -77,16 +98,35 @@ pub impl<F: Bank, S: Bank> Bank for Pair<F, S> as PairBank {
 
     // A refusal names the pair's own segment.
     fn rain(&mut self, segment: u64, depth: u64, demand: u64) -> Result<(u64, u64, u64), Refusal> {
-        let count = self.first.count();
-        if segment < count {
-            return self.first.rain(segment, depth, demand);
+        match self.place(segment) {
+            Place::First(k) => match rain_there(&mut self.first, k, depth, demand) {
+                Some(depths) => Ok(depths),
+                None => Err(Refusal::StorageFull(segment)),
+            },
+            Place::Second(k) => match rain_there(&mut self.second, k, depth, demand) {
+                Some(depths) => Ok(depths),
+                None => Err(Refusal::StorageFull(segment)),
+            },
+            Place::Missing => Err(Refusal::NoSuchSegment(segment)),
         }
-        if segment - count >= self.second.count() {
-            return Err(Refusal::NoSuchSegment(segment));
-        }
-        match self.second.rain(segment - count, depth, demand) {
-            Ok(depths) => Ok(depths),
-            Err(_) => Err(Refusal::StorageFull(segment)),
-        }
+    }
+}
+
+// Rain on a segment that a bank has: None where it is full.
+fn rain_there<B: Bank>(
+    bank: &mut B,
+    segment: u64,
+    depth: u64,
+    demand: u64,
+) -> Option<(u64, u64, u64)>
+    requires sound { ⌜ B·Bank .sound (now bank) ⌝ }
+    requires there { ⌜ segment < length (B·Bank .tracts (now bank)) ⌝ }
+    ensures sound { λ _. ⌜ B·Bank .sound (now (bank .exit)) ⌝ }
+    ensures count { λ _. ⌜ length (B·Bank .tracts (now (bank .exit))) ≡ length (B·Bank .tracts (now (bank .entry))) ⌝ }
+    ensures cases { λ r. ⌜ Cases r ((at (B·Bank .tracts (now (bank .entry))) segment .ceiling < at (B·Bank .tracts (now (bank .entry))) segment .content + depth) × (now (bank .exit) ≡ now (bank .entry))) (λ o. (at (B·Bank .tracts (now (bank .entry))) segment .content + depth ≤ at (B·Bank .tracts (now (bank .entry))) segment .ceiling) × B·Bank .rains (now (bank .entry)) segment depth demand o (now (bank .exit))) ⌝ }
+{
+    match bank.rain(segment, depth, demand) {
+        Ok(depths) => Some(depths),
+        Err(_) => None,
     }
 }

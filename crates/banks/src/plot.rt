@@ -38,7 +38,7 @@ pub impl<S: Storage> Bank for Plot<S> as PlotBank {
     ghost rains = { λ p k i d o q. (k ≡ 0) × S·Storage .steps (p .storage) i d o (q .storage) × (q .area ≡ p .area) };
 
     fn count(&self) -> u64 {
-        1
+        1 // a plot is one segment
     }
 
     fn area(&self, segment: u64) -> u64 {
@@ -62,7 +62,7 @@ pub impl<S: Storage> Bank for Plot<S> as PlotBank {
     }
 
     fn volume(&self) -> u64 {
-        self.area * self.storage.content()
+        self.area * self.content(0)
     }
 
     fn rain(&mut self, segment: u64, depth: u64, demand: u64) -> Result<(u64, u64, u64), Refusal> {

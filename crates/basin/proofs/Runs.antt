@@ -12,7 +12,7 @@ use Rattle.refusals.specs.Limits.{Passed}
 use Rattle.banks.specs.Rows.{at, areas, volume}
 use Rattle.banks.proofs.Rows.{area-at, rained-areas, rained-length}
 use Rattle.basin.specs.Lists.{All, total, One, here, there, Less, first, later}
-use Rattle.basin.specs.Law.{View, held, Entry, byRain, byTurn, byDraw, byPour, byClosing, byQuestion, Even, fresh, added, renewed, tally, Story, whole, since, New, State, nothing, joined, Goes, Hands, Happening, opening, call, booking, ending, Happens, Ran, Balanced, acre, Over, Rules, Lawful, Law}
+use Rattle.basin.specs.Law.{View, held, Entry, byRain, byTurn, byDraw, byPour, byClosing, byQuestion, Even, fresh, added, renewed, tally, Story, whole, since, New, State, nothing, joined, Goes, Hands, Happening, opening, call, booking, Happens, Ran, Balanced, acre, Over, Rules, Lawful, Law}
 use Rattle.basin.specs.Calls.{Called, rainLimits, drawLimits}
 use Rattle.basin.specs.declared.book.Sums.{Sums}
 use Rattle.basin.specs.declared.parcel.Parcel.{Parcel}
@@ -31,9 +31,10 @@ booked a b e s t u p q r = r ∙ ap (λ l. added l e s) p ∙ ap (λ x. added b 
 -- a call that altered neither the basin nor the tally
 same : (o : View) (es : List Entry) (v w : View) (e : Entry) → w ≡ v → tally added (areas (o .tracts)) (held o) (e ∷ es) ≡ tally added (areas (o .tracts)) (held o) es → tally renewed (areas (o .tracts)) (held o) (e ∷ es) ≡ tally renewed (areas (o .tracts)) (held o) es → Kept (record { opened = o; entries = es; stands = v }) → Kept (record { opened = o; entries = e ∷ es; stands = w })
 same o es v w e q a b i = subst (λ u. Kept (record { opened = o; entries = e ∷ es; stands = u })) (sym q) (record {
-    acres = i .acres;
-    count = i .count;
-    balanced = record { even = subst (λ s. Even s (held v)) (sym a) (i .balanced .even); book = i .balanced .book ∙ sym b; running = subst (λ s. Even s (held v)) (sym b) (i .balanced .running) } })
+  acres = i .acres;
+  count = i .count;
+  balanced = record { even = subst (λ s. Even s (held v)) (sym a) (i .balanced .even); book = i .balanced .book ∙ sym b; running = subst (λ s. Even s (held v)) (sym b) (i .balanced .running) };
+})
 
 step : (o : View) (es : List Entry) (v : View) (e : Entry) (w : View) → Called v e w → Kept (record { opened = o; entries = es; stands = v }) → Kept (record { opened = o; entries = e ∷ es; stands = w })
 step o es v (byRain k p d (Ok x)) w (a, r) i =
@@ -44,7 +45,8 @@ step o es v (byRain k p d (Ok x)) w (a, r) i =
     record {
       acres = rained-areas (v .tracts) k p d (r .depths) (w .tracts) (r .rained) ∙ i .acres;
       count = rained-length (v .tracts) k p d (r .depths) (w .tracts) (r .rained) ∙ i .count;
-      balanced = record { even = omega (arith, b .even); running = omega (arith, b .running); book = booked _ _ (byRain k p d (Ok x)) _ _ _ (i .acres) (b .book) (r .sums) } }
+      balanced = record { even = omega (arith, b .even); running = omega (arith, b .running); book = booked _ _ (byRain k p d (Ok x)) _ _ _ (i .acres) (b .book) (r .sums) };
+    }
 step o es v (byRain k p d (Err f)) w (a, r) i = same o es v w (byRain k p d (Err f)) r refl refl i
 step o es v (byTurn flow deep) w r i =
     let f = turn-held v flow deep w r in
@@ -66,7 +68,8 @@ step o es v (byClosing c) w r i =
     record {
       acres = ap areas (r .tracts) ∙ i .acres;
       count = ap length (r .tracts) ∙ i .count;
-      balanced = record { even = omega (arith, b .even, r .pocket, r .channel); running = omega (arith, b .running, r .pocket, r .channel); book = r .sums ∙ ap fresh (omega (arith, b .running)) } }
+      balanced = record { even = omega (arith, b .even, r .pocket, r .channel); running = omega (arith, b .running, r .pocket, r .channel); book = r .sums ∙ ap fresh (omega (arith, b .running)) };
+    }
 step o es v (byQuestion c) w (a, r) i = same o es v w (byQuestion c) r refl refl i
 
 goes : (e : Entry) (s t : Story) → Goes Called e s t → Kept s → Kept t
@@ -88,9 +91,6 @@ total-one f c d h (there o) = let e = total-one f c d h o in omega arith
 total-less : {X : Type 0} (f : X → ℕ) (p : X) {xs ys : List X} → Less p xs ys → total f xs ≡ total f ys + f p
 total-less f p first = omega arith
 total-less f p (later l) = let e = total-less f p l in omega arith
-
-amount : Parcel → ℕ
-amount p = p .amount
 
 -- what an entry draws and pours
 draws : Entry → ℕ
@@ -174,11 +174,6 @@ keeps : (h : Happening) (s t : State) → Happens Called h s t → Keeps s → K
 keeps (opening v) s t h i = subst Keeps (sym (h .1)) (joins v s (h .0) i)
 keeps (call e) s t h i = called e s t h i
 keeps (booking p n) s t h i =
-    let a = ap (total (λ s. whole s .drawn)) (h .1) in
-    let b = ap (total (λ s. whole s .poured)) (h .1) in
-    let l = total-less (λ p. p .amount) p (h .2) in
-    record { stories = subst (All Kept) (sym (h .1)) (i .stories); parcels = omega (arith, i .parcels, h .0, h .3) }
-keeps (ending p) s t h i =
     let a = ap (total (λ s. whole s .drawn)) (h .1) in
     let b = ap (total (λ s. whole s .poured)) (h .1) in
     let l = total-less (λ p. p .amount) p (h .2) in

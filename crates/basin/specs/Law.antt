@@ -4,10 +4,10 @@
 -- relation C between the view before, the call with its answer, and the view after: specs/Calls.antt has the one that the
 -- contracts of the calls cite, and the contract of opening a basin states the law of it. Lists have the latest first.
 --
---   View        what can be seen of a basin          Entry    a call on a basin, with its answer
---   whole, since   the tally: sums of entries, over all and since the last closing
---   Story       a basin as opened, its entries, and as it stands
---   Ran         what a list of happenings leads to   Lawful   what holds after each of them
+--   View    what can be seen of a basin           Entry          a call on a basin, with its answer
+--   Story   a basin as opened, its entries,       whole, since   the tally: sums of a story's entries, over all of them
+--           and as it stands                                     and since the last closing
+--   Ran     what a list of happenings leads to    Lawful         what holds after each of them
 use mathlib.Core.Path.{_≡_}
 use mathlib.Core.List.{List, [], _∷_}
 use mathlib.Core.Logic.{_⊎_}
@@ -48,7 +48,6 @@ pub data Entry : Type 0 where
 abbrev pub sumsOf : (opening rain streamflow evaporated deep drawn poured : ℕ) → Sums
 sumsOf o r f e d w p = record { opening = o; rain = r; streamflow = f; evaporated = e; deep = d; drawn = w; poured = p }
 
--- the sums of a book that begins with this water
 abbrev pub fresh : ℕ → Sums
 fresh water = sumsOf water 0 0 0 0 0 0
 
@@ -56,11 +55,12 @@ fresh water = sumsOf water 0 0 0 0 0 0
 abbrev pub Even : Sums → ℕ → Type 0
 Even s water = s .opening + s .rain + s .poured ≡ s .streamflow + s .evaporated + s .deep + s .drawn + water
 
--- what an entry adds to sums, by the areas of the segments; a refusal adds nothing
+-- a refusal adds nothing
 abbrev pub granted : {T : Type 0} → Result T Refusal → Sums → (T → Sums) → Sums
 granted (Ok x) s f = f x
 granted (Err e) s f = s
 
+-- what an entry adds to sums, by the areas of the segments
 abbrev pub added : List ℕ → Entry → Sums → Sums
 added acres (byRain k depth demand r) s = granted r s (λ o. sumsOf (s .opening) (s .rain + depth * getD acres k 0) (s .streamflow) (s .evaporated + o .1) (s .deep + o .2) (s .drawn) (s .poured))
 added acres (byTurn flow deep) s = sumsOf (s .opening) (s .rain) (s .streamflow + flow) (s .evaporated) (s .deep + deep) (s .drawn) (s .poured)
@@ -130,18 +130,16 @@ Hands (byPour n r) ps qs = Cases r (λ u. One (λ p q. (p .amount ≡ n) × (q .
 Hands (byClosing b) ps qs = qs ≡ ps
 Hands (byQuestion b) ps qs = qs ≡ ps
 
--- what happens: a basin is opened, a basin is called, a parcel is booked (with the answer), an empty parcel is let go
+-- a basin is opened, one is called, or a parcel is booked, with the answer; an empty parcel that is let go counts as booked for 0
 pub data Happening : Type 0 where
   opening : View → Happening
   call : Entry → Happening
   booking : Parcel → ℕ → Happening
-  ending : Parcel → Happening
 
 abbrev pub Happens : (View → Entry → View → Type 0) → Happening → State → State → Type 0
 Happens C (opening v) s t = New v × (t ≡ joined v s)
 Happens C (call e) s t = One (Goes C e) (s .stories) (t .stories) × Hands e (s .parcels) (t .parcels) × (t .booked ≡ s .booked)
 Happens C (booking p n) s t = (n ≡ p .amount) × (t .stories ≡ s .stories) × Less p (s .parcels) (t .parcels) × (t .booked ≡ s .booked + n)
-Happens C (ending p) s t = (p .amount ≡ 0) × (t .stories ≡ s .stories) × Less p (s .parcels) (t .parcels) × (t .booked ≡ s .booked)
 
 abbrev pub Ran : (View → Entry → View → Type 0) → List Happening → State → State → Type 0
 Ran C [] s t = t ≡ s

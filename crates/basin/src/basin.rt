@@ -1,12 +1,12 @@
 // The calls on a basin. Each says what it does to what can be seen, and to the bank and the channel themselves.
 ghost use mathlib.Core.Path.{_≡_};
-ghost use Prim.Native.Nat.{ℕ, _+_};
+ghost use Prim.Native.Nat.{ℕ, _+_, _≤_};
 ghost use Rattle.std.specs.Results.{Cases};
-ghost use Rattle.refusals.specs.Limits.{Answers};
+ghost use Rattle.refusals.specs.Limits.{Answers, Kept};
 ghost use Rattle.storages.specs.Meaning.{Out};
 ghost use Rattle.banks.specs.Rows.{at};
 ghost use Rattle.basin.specs.Law.{held, New, Law, byRain, byTurn, byDraw, byPour, byClosing, byQuestion};
-ghost use Rattle.basin.specs.Calls.{Called, openingLimits, rainLimits, pourLimits};
+ghost use Rattle.basin.specs.Calls.{Called, Rains, openingLimits, rainLimits};
 ghost use Rattle.basin.specs.Basins.{view, Sound, RainMoved, TurnMoved, Rested};
 use crate::book::Book;
 use crate::book::Sums;
@@ -31,7 +31,9 @@ const PAGE: u64 = 1_000_000_000_000_000;
 impl<B: Bank, C: Tapped> Basin<B, C> {
     // Opens a basin with all that its bank and its channel hold. From here on its books balance, whatever is called.
     pub fn open(bank: B, channel: C) -> Result<Basin<B, C>, Refusal>
-        where B: Drop, C: Drop
+    where
+        B: Drop,
+        C: Drop,
         requires bank { ⌜ B·Bank .sound bank ⌝ }
         requires channel { ⌜ C·Storage .sound channel ⌝ }
         ensures opened { λ r. ⌜ Answers (openingLimits (B·Bank .tracts bank) (C·Storage .holds channel) (C·Storage .limit channel)) r (λ b. Sound B·Bank C·Storage b × New (view B·Bank C·Storage b) × (b .bank ≡ bank) × (b .channel ≡ channel)) (Unit {0}) ⌝ }
@@ -41,7 +43,12 @@ impl<B: Bank, C: Tapped> Basin<B, C> {
         if opening > channel.ceiling() {
             return Err(Refusal::OpeningAboveCeiling);
         }
-        Ok(Basin { bank, channel, pocket: 0, sums: Sums::fresh(opening) })
+        Ok(Basin {
+            bank,
+            channel,
+            pocket: 0,
+            sums: Sums::fresh(opening),
+        })
     }
 
     // All water held: on the bank, in the pocket and in the channel.
@@ -81,20 +88,37 @@ impl<B: Bank, C: Tapped> Basin<B, C> {
     }
 
     // Rain on one segment: answers what ran off, evaporated and was lost deep, as volumes. What ran off joins the pocket.
-    pub fn rain(&mut self, segment: u64, depth: u64, demand: u64) -> Result<(u64, u64, u64), Refusal>
+    pub fn rain(
+        &mut self,
+        segment: u64,
+        depth: u64,
+        demand: u64,
+    ) -> Result<(u64, u64, u64), Refusal>
         requires { ⌜ Sound B·Bank C·Storage (now self) ⌝ }
         ensures sound { λ _. ⌜ Sound B·Bank C·Storage (now (self .exit)) ⌝ }
         ensures called { λ r. ⌜ Called (view B·Bank C·Storage (now (self .entry))) (byRain segment depth demand r) (view B·Bank C·Storage (now (self .exit))) ⌝ }
         ensures moved { λ r. ⌜ Cases r (λ o. RainMoved B·Bank (now (self .entry)) segment depth demand o (now (self .exit))) (λ _. now (self .exit) ≡ now (self .entry)) ⌝ }
     {
         let area = self.admit(segment, depth, demand)?;
+        Ok(self.rain_admitted(segment, depth, demand, area))
+    }
+
+    // A rain that no rule refuses: the bank rains, and its depths are entered as volumes.
+    fn rain_admitted(&mut self, segment: u64, depth: u64, demand: u64, area: u64) -> (u64, u64, u64)
+        requires sound { ⌜ Sound B·Bank C·Storage (now self) ⌝ }
+        requires limits { ⌜ Kept (rainLimits (view B·Bank C·Storage (now self)) segment depth demand) ⌝ }
+        requires area { ⌜ area ≡ at (B·Bank .tracts (now self .bank)) segment .area ⌝ }
+        ensures sound { λ _. ⌜ Sound B·Bank C·Storage (now (self .exit)) ⌝ }
+        ensures rains { λ r. ⌜ Rains (view B·Bank C·Storage (now (self .entry))) segment depth demand r (view B·Bank C·Storage (now (self .exit))) ⌝ }
+        ensures moved { λ r. ⌜ RainMoved B·Bank (now (self .entry)) segment depth demand r (now (self .exit)) ⌝ }
+    {
         match self.bank.rain(segment, depth, demand) {
             Ok((release, evaporated, deep)) => {
                 self.pocket += release * area;
                 self.sums.rain += depth * area;
                 self.sums.evaporated += evaporated * area;
                 self.sums.deep += deep * area;
-                Ok((release * area, evaporated * area, deep * area))
+                (release * area, evaporated * area, deep * area)
             }
             Err(_) => unreachable(),
         }
@@ -108,15 +132,11 @@ impl<B: Bank, C: Tapped> Basin<B, C> {
         ensures moved { λ r. ⌜ TurnMoved C·Storage (now (self .entry)) (r .0) (r .1) (now (self .exit)) ⌝ }
     {
         let pocket = self.pocket;
-        match self.channel.step(pocket, 0) {
-            Ok((release, _evaporated, deep)) => {
-                self.pocket = 0;
-                self.sums.streamflow += release;
-                self.sums.deep += deep;
-                (release, deep)
-            }
-            Err(_) => unreachable(),
-        }
+        let (streamflow, deep) = take(&mut self.channel, pocket);
+        self.pocket = 0;
+        self.sums.streamflow += streamflow;
+        self.sums.deep += deep;
+        (streamflow, deep)
     }
 
     // Takes channel water as a parcel.
@@ -162,7 +182,10 @@ impl<B: Bank, C: Tapped> Basin<B, C> {
         requires { ⌜ Sound B·Bank C·Storage (now self) ⌝ }
         ensures { λ r. ⌜ Called (view B·Bank C·Storage (now (self .entry))) (byQuestion r) (view B·Bank C·Storage (now (self .entry))) ⌝ }
     {
-        Book { sums: self.sums, held: self.held() }
+        Book {
+            sums: self.sums,
+            held: self.held(),
+        }
     }
 
     // Answers the book, and begins another with all water held.
@@ -175,5 +198,20 @@ impl<B: Bank, C: Tapped> Basin<B, C> {
         let book = self.question();
         self.sums = Sums::fresh(book.held);
         book
+    }
+}
+
+// A storage takes an inflow that it has room for, and no demand: answers release and deep loss.
+fn take<S: Storage>(storage: &mut S, inflow: u64) -> (u64, u64)
+    requires sound { ⌜ S·Storage .sound (now storage) ⌝ }
+    requires room { ⌜ S·Storage .holds (now storage) + inflow ≤ S·Storage .limit (now storage) ⌝ }
+    ensures sound { λ _. ⌜ S·Storage .sound (now (storage .exit)) ⌝ }
+    ensures steps { λ r. ⌜ S·Storage .steps (now (storage .entry)) inflow 0 (r .0, 0, r .1) (now (storage .exit)) ⌝ }
+    ensures balance { λ r. ⌜ S·Storage .holds (now (storage .exit)) + r .0 + r .1 ≡ S·Storage .holds (now (storage .entry)) + inflow ⌝ }
+    ensures ceiling { λ _. ⌜ S·Storage .limit (now (storage .exit)) ≡ S·Storage .limit (now (storage .entry)) ⌝ }
+{
+    match storage.step(inflow, 0) {
+        Ok((release, _evaporated, deep)) => (release, deep),
+        Err(_) => unreachable(),
     }
 }

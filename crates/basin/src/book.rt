@@ -27,6 +27,14 @@ impl Sums {
     pub fn fresh(opening: u64) -> Sums
         ensures { λ r. ⌜ r ≡ fresh opening ⌝ }
     {
-        Sums { opening, rain: 0, streamflow: 0, evaporated: 0, deep: 0, drawn: 0, poured: 0 }
+        Sums {
+            opening,
+            rain: 0,
+            streamflow: 0,
+            evaporated: 0,
+            deep: 0,
+            drawn: 0,
+            poured: 0,
+        }
     }
 }

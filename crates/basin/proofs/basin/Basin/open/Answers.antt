@@ -29,4 +29,5 @@ returns g c =
     let new : New (view (g .B·Bank) (g .C·Storage) (record { bank = c .args .bank; channel = c .args .channel; pocket = 0; sums = c .fresh .result })) = record { bounded = b; pocket = refl; room = omega arith; small = l; sums = e ∙ ap fresh (omega arith) } in
     record {
       opened = ((omega arith, tt), (record { bank = c .pre .bank; channel = c .pre .channel; room = omega arith; even = omega arith; opening = omega arith; page = omega arith }, new, refl, refl));
-      law = law _ new }
+      law = law _ new;
+    }
