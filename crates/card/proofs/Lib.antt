@@ -1,0 +1,4 @@
+mod Digits
+mod Names
+mod Counts
+mod Sheets

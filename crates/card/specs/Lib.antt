@@ -1,0 +1,5 @@
+pub mod Figures
+pub mod Words
+pub mod Fields
+pub mod Entries
+pub mod Cards
