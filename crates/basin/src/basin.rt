@@ -7,7 +7,7 @@ ghost use Rattle.storages.specs.Meaning.{Out};
 ghost use Rattle.banks.specs.Rows.{at};
 ghost use Rattle.basin.specs.Law.{held, New, Law, byRain, byTurn, byDraw, byPour, byClosing, byQuestion};
 ghost use Rattle.basin.specs.Calls.{Called, Rains, openingLimits, rainLimits};
-ghost use Rattle.basin.specs.Basins.{view, Sound, RainMoved, TurnMoved, Rested};
+ghost use Rattle.basin.specs.Basins.{view, Sound, RainMoved, Moved};
 use crate::book::Book;
 use crate::book::Sums;
 use crate::parcel::Parcel;
@@ -97,7 +97,7 @@ impl<B: Bank, C: Tapped> Basin<B, C> {
         requires { ⌜ Sound B·Bank C·Storage (now self) ⌝ }
         ensures sound { λ _. ⌜ Sound B·Bank C·Storage (now (self .exit)) ⌝ }
         ensures called { λ r. ⌜ Called (view B·Bank C·Storage (now (self .entry))) (byRain segment depth demand r) (view B·Bank C·Storage (now (self .exit))) ⌝ }
-        ensures moved { λ r. ⌜ Cases r (λ o. RainMoved B·Bank (now (self .entry)) segment depth demand o (now (self .exit))) (λ _. now (self .exit) ≡ now (self .entry)) ⌝ }
+        ensures moved { λ r. ⌜ Moved B·Bank C·Storage C·Tapped (now (self .entry)) (byRain segment depth demand r) (now (self .exit)) ⌝ }
     {
         let area = self.admit(segment, depth, demand)?;
         Ok(self.rain_admitted(segment, depth, demand, area))
@@ -129,7 +129,7 @@ impl<B: Bank, C: Tapped> Basin<B, C> {
         requires { ⌜ Sound B·Bank C·Storage (now self) ⌝ }
         ensures sound { λ _. ⌜ Sound B·Bank C·Storage (now (self .exit)) ⌝ }
         ensures called { λ r. ⌜ Called (view B·Bank C·Storage (now (self .entry))) (byTurn (r .0) (r .1)) (view B·Bank C·Storage (now (self .exit))) ⌝ }
-        ensures moved { λ r. ⌜ TurnMoved C·Storage (now (self .entry)) (r .0) (r .1) (now (self .exit)) ⌝ }
+        ensures moved { λ r. ⌜ Moved B·Bank C·Storage C·Tapped (now (self .entry)) (byTurn (r .0) (r .1)) (now (self .exit)) ⌝ }
     {
         let pocket = self.pocket;
         let (streamflow, deep) = take(&mut self.channel, pocket);
@@ -144,7 +144,7 @@ impl<B: Bank, C: Tapped> Basin<B, C> {
         requires { ⌜ Sound B·Bank C·Storage (now self) ⌝ }
         ensures sound { λ _. ⌜ Sound B·Bank C·Storage (now (self .exit)) ⌝ }
         ensures called { λ r. ⌜ Called (view B·Bank C·Storage (now (self .entry))) (byDraw amount r) (view B·Bank C·Storage (now (self .exit))) ⌝ }
-        ensures moved { λ r. ⌜ Cases r (λ _. C·Tapped .draws (now (self .entry) .channel) amount (now (self .exit) .channel) × (now (self .exit) .bank ≡ now (self .entry) .bank)) (λ _. now (self .exit) ≡ now (self .entry)) ⌝ }
+        ensures moved { λ r. ⌜ Moved B·Bank C·Storage C·Tapped (now (self .entry)) (byDraw amount r) (now (self .exit)) ⌝ }
     {
         if amount == 0 {
             return Err(Refusal::DrawAmount);
@@ -159,7 +159,8 @@ impl<B: Bank, C: Tapped> Basin<B, C> {
         requires { ⌜ Sound B·Bank C·Storage (now self) ⌝ }
         ensures sound { λ _. ⌜ Sound B·Bank C·Storage (now (self .exit)) ⌝ }
         ensures called { λ r. ⌜ Called (view B·Bank C·Storage (now (self .entry))) (byPour (now (parcel .entry) .amount) r) (view B·Bank C·Storage (now (self .exit))) ⌝ }
-        ensures moved { λ r. ⌜ Cases r (λ _. Rested (now (self .entry)) (now (self .exit)) × (now (parcel .exit) .amount ≡ 0)) (λ _. (now (self .exit) ≡ now (self .entry)) × (now (parcel .exit) ≡ now (parcel .entry))) ⌝ }
+        ensures moved { λ r. ⌜ Moved B·Bank C·Storage C·Tapped (now (self .entry)) (byPour (now (parcel .entry) .amount) r) (now (self .exit)) ⌝ }
+        ensures parcel { λ r. ⌜ Cases r (λ _. now (parcel .exit) .amount ≡ 0) (λ _. now (parcel .exit) ≡ now (parcel .entry)) ⌝ }
     {
         let amount = parcel.amount;
         if amount == 0 {
@@ -193,7 +194,7 @@ impl<B: Bank, C: Tapped> Basin<B, C> {
         requires { ⌜ Sound B·Bank C·Storage (now self) ⌝ }
         ensures sound { λ _. ⌜ Sound B·Bank C·Storage (now (self .exit)) ⌝ }
         ensures called { λ r. ⌜ Called (view B·Bank C·Storage (now (self .entry))) (byClosing r) (view B·Bank C·Storage (now (self .exit))) ⌝ }
-        ensures moved { λ _. ⌜ Rested (now (self .entry)) (now (self .exit)) ⌝ }
+        ensures moved { λ r. ⌜ Moved B·Bank C·Storage C·Tapped (now (self .entry)) (byClosing r) (now (self .exit)) ⌝ }
     {
         let book = self.question();
         self.sums = Sums::fresh(book.held);

@@ -29,7 +29,7 @@ letter (Refused notice) = 88
 abbrev pub entries : Line → List ℕ
 entries (Rain segment runoff evaporated deep) = segment ∷ runoff ∷ evaporated ∷ deep ∷ []
 entries (Turn streamflow deep) = streamflow ∷ deep ∷ []
-entries (Closing book) = book .opening ∷ book .rain ∷ book .streamflow ∷ book .evaporated ∷ book .deep ∷ book .drawn ∷ book .poured ∷ book .held ∷ []
+entries (Closing book) = book .sums .opening ∷ book .sums .rain ∷ book .sums .streamflow ∷ book .sums .evaporated ∷ book .sums .deep ∷ book .sums .drawn ∷ book .sums .poured ∷ book .held ∷ []
 entries (Refused notice) = notice .number ∷ notice .layer ∷ notice .place ∷ []
 
 abbrev pub text : Line → List ℕ

@@ -5,13 +5,11 @@ ghost use Rattle.refusals.specs.Limits.{Answers};
 ghost use Rattle.lines.specs.Text.{text, bufferLimits, Printed};
 use crate::backward::ROOM;
 use crate::backward::put_line;
+use basin::Book;
 use refusals::Notice;
 use refusals::Refusal;
 
 mod backward;
-mod book;
-
-pub use book::Book;
 
 // What a record came to: rain on a segment, a turn, a closing, or a refusal.
 #[derive(Clone, Copy)]
@@ -47,18 +45,18 @@ impl Line {
                     deep,
                 } => put_line(out, b'R', &[segment, runoff, evaporated, deep]),
                 Line::Turn { streamflow, deep } => put_line(out, b'T', &[streamflow, deep]),
-                Line::Closing(b) => put_line(
+                Line::Closing(Book { sums, held }) => put_line(
                     out,
                     b'C',
                     &[
-                        b.opening,
-                        b.rain,
-                        b.streamflow,
-                        b.evaporated,
-                        b.deep,
-                        b.drawn,
-                        b.poured,
-                        b.held,
+                        sums.opening,
+                        sums.rain,
+                        sums.streamflow,
+                        sums.evaporated,
+                        sums.deep,
+                        sums.drawn,
+                        sums.poured,
+                        held,
                     ],
                 ),
                 Line::Refused(n) => put_line(out, b'X', &[n.number, n.layer, n.place]),
@@ -69,8 +67,9 @@ impl Line {
 
 #[cfg(test)]
 mod tests {
-    use super::Book;
     use super::Line;
+    use basin::Book;
+    use basin::Sums;
     use refusals::Refusal;
     use refusals::RefusalDebug;
     use refusals::RefusalPartialEq;
@@ -83,7 +82,7 @@ mod tests {
     #[test]
     fn writes_the_longest_line() -> Result<(), Fail> {
         let mut out = [b'.'; 192];
-        let book = Book {
+        let sums = Sums {
             opening: MOST,
             rain: MOST,
             streamflow: MOST,
@@ -91,9 +90,11 @@ mod tests {
             deep: MOST,
             drawn: MOST,
             poured: MOST,
-            held: MOST,
         };
-        check_eq(Line::Closing(book).write(&mut out)?, 170)?;
+        check_eq(
+            Line::Closing(Book { sums, held: MOST }).write(&mut out)?,
+            170,
+        )?;
         check_eq(&out[0..23], b"C 18446744073709551615 ")?;
         check_eq(&out[148..171], b" 18446744073709551615\n.")
     }
