@@ -6,9 +6,9 @@ use native.Mathlib.Nat.{mul-comm, mul-assoc, mul-le-mul, mul-le-mul-left, mul-le
 use native.Mathlib.Omega.{arith}
 use borrow.Author.Needs.{needs}
 use lib.Dec.{lit<}
-use Rattle.std.proofs.shelf.Bits.{pow-pos, pow-add}
+use Rattle.std.proofs.shelf.Bits.{pow-add}
 use Rattle.std.proofs.shelf.Tests.{cases-lt}
-use Rattle.figures.specs.Power.{T, Sixteenth, TableStands, power, Powered}
+use Rattle.figures.specs.Power.{T, TableStands, power, Powered}
 
 -- the rule as a test of an entry and of the number above it
 record Entry (k t : ℕ) : Type 0 where

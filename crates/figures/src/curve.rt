@@ -1,6 +1,6 @@
 // Curves of the land, straight between knots and flat after the last: what the upper zone keeps, what sinks to groundwater.
 ghost use mathlib.Core.Path.{_≡_};
-ghost use Prim.Native.Nat.{ℕ, _*_, _/_, _^_, _≤_, _<_};
+ghost use Prim.Native.Nat.{_*_, _/_, _^_, _≤_, _<_};
 ghost use Rattle.figures.specs.Curve.{place as placeOf, between, curve as curveAt, upperPart, groundPart, upperKnots, groundKnots, Readable, Apart, Through};
 
 // A value, in parts of 1,048,576, at a multiple of the nominal content.

@@ -1,6 +1,6 @@
 // Powers of two by sixteenths of an exponent, in 65,536ths.
 ghost use mathlib.Core.Path.{_≡_};
-ghost use Prim.Native.Nat.{ℕ, _<_};
+ghost use Prim.Native.Nat.{_<_};
 ghost use Rattle.figures.specs.Power.{Powered, T, TableStands};
 
 // Entry k is the greatest whole number whose 16th power is at most 2^(256 + k).

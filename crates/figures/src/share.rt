@@ -1,6 +1,6 @@
 // The share of a supply that is taken where the capacity to take it rises evenly from 0 to b over the area.
 ghost use mathlib.Core.Path.{_≡_};
-ghost use Prim.Native.Nat.{ℕ, _*_, _/_, _<_, _≤_};
+ghost use Prim.Native.Nat.{_*_, _/_, _<_, _≤_};
 ghost use Rattle.figures.specs.Share.{shareRule, Shared};
 
 // What is not taken of a supply up to b: x × x over twice b. It is halved after the quotient, since twice b may not fit.

@@ -1,5 +1,5 @@
 -- The divisor is a square above 0; twice the number and the quotient fit 64 bits together, since the square lacks 2^33.
-use Prim.Native.Nat.{ℕ, _*_, _^_, _≤_, _<_}
+use Prim.Native.Nat.{ℕ, _*_, _≤_}
 use native.Mathlib.Nat.{mul-le-mul, div-le-self}
 use native.Mathlib.Omega.{arith}
 use Rattle.figures.proofs.root.guess.Needs as need

@@ -1,6 +1,6 @@
 -- What is not taken is at most half of the supply.
 use mathlib.Core.Path.{sym}
-use Prim.Native.Nat.{ℕ, _*_}
+use Prim.Native.Nat.{_*_}
 use native.Mathlib.Omega.{arith}
 use Rattle.figures.proofs.Parts.{part-le, div-half}
 use Rattle.figures.proofs.share.left.Needs as need
