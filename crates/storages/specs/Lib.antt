@@ -1,1 +1,4 @@
 pub mod Meaning
+pub mod Slope
+pub mod Leak
+pub mod Chain

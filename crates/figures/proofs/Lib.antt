@@ -1,0 +1,6 @@
+pub mod Cubes
+pub mod Knots
+pub mod Parts
+pub mod Portions
+pub mod Shares
+pub mod Sixteenths
