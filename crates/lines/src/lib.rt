@@ -38,32 +38,31 @@ impl Line {
         if out.len() < ROOM {
             return Err(Refusal::ShortBuffer);
         }
-        Ok(
-            match self {
-                Line::Rain {
-                    segment,
-                    runoff,
-                    evaporated,
-                    deep,
-                } => put_line(out, b'R', &[segment, runoff, evaporated, deep]),
-                Line::Turn { streamflow, deep } => put_line(out, b'T', &[streamflow, deep]),
-                Line::Closing(b) => put_line(
-                    out,
-                    b'C',
-                    &[
-                        b.opening,
-                        b.rain,
-                        b.streamflow,
-                        b.evaporated,
-                        b.deep,
-                        b.drawn,
-                        b.poured,
-                        b.held,
-                    ],
-                ),
-                Line::Refused(n) => put_line(out, b'X', &[n.number, n.layer, n.place]),
-            },
-        )
+        let size = match self {
+            Line::Rain {
+                segment,
+                runoff,
+                evaporated,
+                deep,
+            } => put_line(out, b'R', &[segment, runoff, evaporated, deep]),
+            Line::Turn { streamflow, deep } => put_line(out, b'T', &[streamflow, deep]),
+            Line::Closing(b) => put_line(
+                out,
+                b'C',
+                &[
+                    b.opening,
+                    b.rain,
+                    b.streamflow,
+                    b.evaporated,
+                    b.deep,
+                    b.drawn,
+                    b.poured,
+                    b.held,
+                ],
+            ),
+            Line::Refused(n) => put_line(out, b'X', &[n.number, n.layer, n.place]),
+        };
+        Ok(size)
     }
 }
 
