@@ -77,7 +77,7 @@ impl Card {
         self.lzsn
     }
 
-    // INFILT: the infiltration index, in microinches an hour.
+    // INFILT: the index of the soil's infiltration capacity.
     pub fn infiltration(&self) -> u64
         ensures value { λ r. ⌜ r ≡ now (self .entry) .infilt ⌝ }
         ensures range { λ r. ⌜ (1000 ≤ r) × (r ≤ 500000) ⌝ }
@@ -93,7 +93,7 @@ impl Card {
         self.intfw
     }
 
-    // LZETP: the evapotranspiration index of the lower zone, in parts of 1,048,576.
+    // LZETP: the evapotranspiration of the lower zone, by its deep-rooted plants, in parts of 1,048,576.
     pub fn lower_evapotranspiration(&self) -> u64
         ensures value { λ r. ⌜ r ≡ now (self .entry) .lzetp ⌝ }
         ensures range { λ r. ⌜ (104858 ≤ r) × (r ≤ 943718) ⌝ }

@@ -4,3 +4,4 @@ pub mod Parts
 pub mod Portions
 pub mod Shares
 pub mod Sixteenths
+pub mod Heights

@@ -36,32 +36,31 @@ impl Line {
         if out.len() < ROOM {
             return Err(Refusal::ShortBuffer);
         }
-        Ok(
-            match self {
-                Line::Rain {
-                    segment,
-                    runoff,
-                    evaporated,
-                    deep,
-                } => put_line(out, b'R', &[segment, runoff, evaporated, deep]),
-                Line::Turn { streamflow, deep } => put_line(out, b'T', &[streamflow, deep]),
-                Line::Closing(Book { sums, held }) => put_line(
-                    out,
-                    b'C',
-                    &[
-                        sums.opening,
-                        sums.rain,
-                        sums.streamflow,
-                        sums.evaporated,
-                        sums.deep,
-                        sums.drawn,
-                        sums.poured,
-                        held,
-                    ],
-                ),
-                Line::Refused(n) => put_line(out, b'X', &[n.number, n.layer, n.place]),
-            },
-        )
+        let size = match self {
+            Line::Rain {
+                segment,
+                runoff,
+                evaporated,
+                deep,
+            } => put_line(out, b'R', &[segment, runoff, evaporated, deep]),
+            Line::Turn { streamflow, deep } => put_line(out, b'T', &[streamflow, deep]),
+            Line::Closing(Book { sums, held }) => put_line(
+                out,
+                b'C',
+                &[
+                    sums.opening,
+                    sums.rain,
+                    sums.streamflow,
+                    sums.evaporated,
+                    sums.deep,
+                    sums.drawn,
+                    sums.poured,
+                    held,
+                ],
+            ),
+            Line::Refused(n) => put_line(out, b'X', &[n.number, n.layer, n.place]),
+        };
+        Ok(size)
     }
 }
 

@@ -1,0 +1,3 @@
+pub mod Hour
+pub mod Laws
+pub mod Segments
