@@ -1,1 +1,3 @@
 pub mod Posting
+pub mod Feeds
+pub mod Pages
