@@ -18,6 +18,7 @@ use Rattle.card.specs.Figures.{figureOf}
 use Rattle.card.specs.Words.{place, ranged}
 use Rattle.card.specs.Fields.{nameAt, figureAt}
 
+-- a word by its place: it is unknown, has come before, or is new
 abbrev pub newWord : ℕ → (ℕ → Bool) → Option ℕ → Result ℕ Refusal
 newWord at met None = Err (UnknownName at)
 newWord at met (Some k) = cond (met k) (Err (RepeatedName at)) (Ok k)
@@ -25,6 +26,7 @@ newWord at met (Some k) = cond (met k) (Err (RepeatedName at)) (Ok k)
 abbrev pub wordWith : (ℕ → Bool) → List ℕ → ℕ → Result ℕ Refusal
 wordWith met card i = newWord (20 * i) met (place (nameAt card i))
 
+-- a figure under the word at place k: it is no number, is out of range, or is good
 abbrev pub rangedFigure : ℕ → ℕ → Option ℕ → Result ℕ Refusal
 rangedFigure at k None = Err (NotANumber at)
 rangedFigure at k (Some v) = cond (ranged k v) (Ok v) (Err (OutOfRange at))
@@ -32,6 +34,7 @@ rangedFigure at k (Some v) = cond (ranged k v) (Ok v) (Err (OutOfRange at))
 abbrev pub figureUnder : ℕ → List ℕ → ℕ → Result ℕ Refusal
 figureUnder k card i = rangedFigure (20 * i + 8) k (figureOf (figureAt card i))
 
+-- the place of the word, and then its figure; the first refusal otherwise
 abbrev pub pair : ℕ → Result ℕ Refusal → Result (ℕ × ℕ) Refusal
 pair k (Err f) = Err f
 pair k (Ok v) = Ok (k, v)

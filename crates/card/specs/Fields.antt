@@ -24,6 +24,7 @@ abbrev pub part : Field → Part
 part (Name at p) = aName at (p .now)
 part (Figure at p) = aFigure at (p .now)
 
+-- where a part begins, and its bytes
 abbrev pub offset : Part → ℕ
 offset (aName at cs) = at
 offset (aFigure at cs) = at

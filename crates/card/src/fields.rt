@@ -1,6 +1,6 @@
 // The fields of a card: parts of its own bytes, with their offsets.
 ghost use mathlib.Core.Path.{_≡_};
-ghost use Prim.Native.Nat.{ℕ, _+_, _*_, _≤_, _<_};
+ghost use Prim.Native.Nat.{ℕ, _≤_, _<_};
 ghost use lib.ListN.{length};
 ghost use Rattle.std.specs.Vec.{made};
 ghost use Rattle.card.specs.Fields.{part, offset, bytesOf, told, nameField, figureField, Placed};

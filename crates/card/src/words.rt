@@ -4,8 +4,8 @@ ghost use Prim.Native.Nat.{ℕ, _<_};
 ghost use lib.ListN.{length};
 ghost use Rattle.std.specs.Slices.{found};
 ghost use Rattle.card.specs.Words.{placeIn, place, within, ranged};
-use refusals::Refusal;
 
+// A name as a card writes it, and the range of its figure.
 #[derive(Clone, Copy)]
 pub(crate) struct Word {
     name: [u8; 8],
@@ -13,6 +13,7 @@ pub(crate) struct Word {
     most: u64,
 }
 
+// In the order in which a checked card holds their figures.
 const WORDS: [Word; 14] = [
     Word {
         name: *b"AREA    ",

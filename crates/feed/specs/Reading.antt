@@ -2,13 +2,14 @@
 --   word i bs      the four bytes from byte i on, the least first
 --   part i n bs    the n bytes from byte i on
 --   blank at bs    refuses the first byte that is not zero; the first of bs stands at `at`
---   andThen r s    r's refusal, or s where r has none
+--   recordOf e     the record of an event, byte by byte
 --   reading bs     the event of a record, or the first rule that it breaks
 use mathlib.Core.Bool.{cond}
-use mathlib.Core.List.{List, [], _∷_}
-use Prim.Native.Nat.{ℕ, _+_, _*_}
+use mathlib.Core.List.{List, [], _∷_, _++_}
+use Prim.Native.Nat.{ℕ, _+_, _*_, _/_, _%_}
 use lib.Dec.{eqb}
-use lib.ListN.{length, getD, take, drop}
+use lib.ListN.{length, getD, take, drop, replicate}
+use Rattle.std.specs.Results.{andOther}
 use Rattle.std.specs.declared.result.Result.{Result}
 use Rattle.std.specs.declared.result.Result.the-variants.{Ok, Err}
 use Rattle.refusals.specs.declared.Refusal.{Refusal}
@@ -26,17 +27,13 @@ abbrev pub blank : ℕ → List ℕ → Result (Unit {0}) Refusal
 blank at [] = Ok tt
 blank at (b ∷ bs) = cond (eqb b 0) (blank (at + 1) bs) (Err (NotZero at))
 
-abbrev pub andThen : Result (Unit {0}) Refusal → Result Event Refusal → Result Event Refusal
-andThen (Ok u) s = s
-andThen (Err f) s = Err f
-
 -- rain: the segment, then rain and demand between bytes that are zero
 abbrev pub rainOf : List ℕ → Result Event Refusal
-rainOf bs = andThen (blank 2 (part 2 2 bs)) (andThen (blank 12 (part 12 4 bs)) (Ok (Rain (getD bs 1 0) (word 4 bs) (word 8 bs))))
+rainOf bs = andOther (blank 2 (part 2 2 bs)) (andOther (blank 12 (part 12 4 bs)) (Ok (Rain (getD bs 1 0) (word 4 bs) (word 8 bs))))
 
 -- a turn or a closing: nothing but zeros after the letter
 abbrev pub bareOf : Event → List ℕ → Result Event Refusal
-bareOf e bs = andThen (blank 1 (drop 1 bs)) (Ok e)
+bareOf e bs = andOther (blank 1 (drop 1 bs)) (Ok e)
 
 -- sixteen bytes by their letter: R is 82, T is 84, C is 67
 abbrev pub lettered : List ℕ → Result Event Refusal
@@ -44,3 +41,12 @@ lettered bs = cond (eqb (getD bs 0 0) 82) (rainOf bs) (cond (eqb (getD bs 0 0) 8
 
 abbrev pub reading : List ℕ → Result Event Refusal
 reading bs = cond (eqb (length bs) 16) (lettered bs) (Err RecordLength)
+
+-- an amount as four bytes, the least first
+abbrev pub fourBytes : ℕ → List ℕ
+fourBytes n = n % 256 ∷ n / 256 % 256 ∷ n / 65536 % 256 ∷ n / 16777216 ∷ []
+
+abbrev pub recordOf : Event → List ℕ
+recordOf (Rain segment depth demand) = 82 ∷ segment ∷ 0 ∷ 0 ∷ (fourBytes depth ++ (fourBytes demand ++ replicate 4 0))
+recordOf Turn = 84 ∷ replicate 15 0
+recordOf Closing = 67 ∷ replicate 15 0

@@ -3,7 +3,8 @@ ghost use mathlib.Core.List.{_∷_};
 ghost use mathlib.Core.Path.{_≡_};
 ghost use Prim.Native.Nat.{ℕ, _+_, _≤_};
 ghost use lib.ListN.{length};
-ghost use Rattle.feed.specs.Reading.{blank, word, rainOf, bareOf, lettered, reading};
+ghost use Rattle.std.specs.Vec.{made};
+ghost use Rattle.feed.specs.Reading.{blank, word, rainOf, bareOf, lettered, reading, recordOf};
 use refusals::Refusal;
 
 // What a record tells: rain on a segment and the hour's demand, a turn of the channel, or a closing of the book.
@@ -81,7 +82,8 @@ fn by_letter(letter: u8, segment: u8, rest: &[u8]) -> Result<Event, Refusal>
 // A record of sixteen bytes, taken apart.
 fn event_of(bytes: &[u8]) -> Result<Event, Refusal>
     requires { ⌜ length (now bytes) ≡ 16 ⌝ }
-    ensures { λ r. ⌜ r ≡ lettered (now (bytes .entry)) ⌝ }
+    ensures value { λ r. ⌜ r ≡ lettered (now (bytes .entry)) ⌝ }
+    ensures layout { λ r. ⌜ made r (λ e. now (bytes .entry) ≡ recordOf e) ⌝ }
 {
     let [letter, segment, rest @ ..] = bytes else {
         return Err(Refusal::RecordLength);
@@ -91,7 +93,8 @@ fn event_of(bytes: &[u8]) -> Result<Event, Refusal>
 
 // The event of a record, or the first rule that it breaks.
 pub fn read(bytes: &[u8]) -> Result<Event, Refusal>
-    ensures { λ r. ⌜ r ≡ reading (now (bytes .entry)) ⌝ }
+    ensures value { λ r. ⌜ r ≡ reading (now (bytes .entry)) ⌝ }
+    ensures layout { λ r. ⌜ made r (λ e. now (bytes .entry) ≡ recordOf e) ⌝ }
 {
     if bytes.len() != 16 {
         return Err(Refusal::RecordLength);

@@ -1,5 +1,4 @@
 // The making of a checked card, from figures that are within their ranges.
-ghost use lib.ListN.{length};
 ghost use Rattle.card.specs.Words.{words};
 ghost use Rattle.card.specs.Cards.{Ranged, Holds};
 use crate::checked::Card;

@@ -2,8 +2,12 @@
 use mathlib.Core.Path.{ap, _∙_}
 use native.Mathlib.Omega.{arith}
 use Rattle.feed.specs.Reading.{lettered}
+use Rattle.feed.proofs.Layouts.{read-layout}
 use Rattle.feed.proofs.Records.{taken-apart}
 use Rattle.feed.proofs.event_of.Needs as need
 
 pub returns : need.returns
-returns c = c .by-letter .ensures ∙ ap lettered (taken-apart (c .args .bytes .now) (omega arith))
+returns c =
+    let bytes = c .args .bytes .now in
+    let e = c .by-letter .ensures ∙ ap lettered (taken-apart bytes (omega arith)) in
+    record { value = e; layout = read-layout bytes (c .pre) (λ k. c .typed .bytes k .fits) (c .by-letter .result) e }
