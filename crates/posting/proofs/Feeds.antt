@@ -64,9 +64,10 @@ answered feed i ls v u w l event.Closing q (b, c, e) s = record { entries = byCl
 posted : (feed : List ℕ) (i : ℕ) (ls : List Line) (v u w : View) (l : Line) (x : Result Event Refusal) → reading (recordAt feed i) ≡ x → Cases x (λ ev. Answered (λ e. Called u e w) ev l) (λ f. (l ≡ line.Refused (noticeOf f)) × (w ≡ u)) → So-far feed i ls v u → So-far feed (i + 1) (l ∷ ls) v w
 posted feed i ls v u w l (Ok ev) q p s = answered feed i ls v u w l ev q p s
 posted feed i ls v u w l (Err f) q p s = record {
-    entries = s .entries;
-    lines = subst (λ x. Tells feed (i + 1) (x ∷ ls) (s .entries)) (sym (p .0)) (unread f (s .lines) q);
-    run = subst (λ x. Ran Called (map call (s .entries)) (joined v nothing) (alone v (s .entries) x)) (sym (p .1)) (s .run) }
+  entries = s .entries;
+  lines = subst (λ x. Tells feed (i + 1) (x ∷ ls) (s .entries)) (sym (p .0)) (unread f (s .lines) q);
+  run = subst (λ x. Ran Called (map call (s .entries)) (joined v nothing) (alone v (s .entries) x)) (sym (p .1)) (s .run);
+}
 
 so-far : (feed : List ℕ) {v w : View} {n : ℕ} {ls : List Line} → Fed feed v n ls w → So-far feed n ls v w
 so-far feed none = record { entries = []; lines = none; run = refl }

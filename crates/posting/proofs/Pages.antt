@@ -30,7 +30,7 @@ use Rattle.posting.specs.Feeds.{recordAt}
 
 -- a line put over the front of what a page has from `at` on
 module _ (page buf line : List ℕ) (at k : ℕ) (room : at ≤ length page) (long : k ≡ length line)
-         (put : buf ≡ line ++ drop k (take (length page - at) (drop at page))) where
+    (put : buf ≡ line ++ drop k (take (length page - at) (drop at page))) where
   whole : putMid at (length page - at) page buf ≡ (take at page ++ line) ++ drop (at + k) page
   whole =
       let rest = take-rest page at in
@@ -51,7 +51,7 @@ module _ (page buf line : List ℕ) (at k : ℕ) (room : at ≤ length page) (lo
 pub part-record : (block : List ℕ) (i to : ℕ) → to ≡ min (length block) (16 * i + 16) → take (to - 16 * i) (drop (16 * i) block) ≡ recordAt block i
 part-record block i to e = ⊎-elim
     (λ l. let z : to - 16 * i ≡ length block - 16 * i = omega arith in
-          ap (λ (n : ℕ). take n (drop (16 * i) block)) z ∙ take-rest block (16 * i) ∙ sym (take-all 16 (drop (16 * i) block) (simp length-drop (omega arith))))
+    ap (λ (n : ℕ). take n (drop (16 * i) block)) z ∙ take-rest block (16 * i) ∙ sym (take-all 16 (drop (16 * i) block) (simp length-drop (omega arith))))
     (λ l. let z : to - 16 * i ≡ 16 = omega arith in ap (λ (n : ℕ). take n (drop (16 * i) block)) z)
     (cases-lt (length block) (16 * i + 16))
 

@@ -6,7 +6,7 @@
 --   Tells             each line is that of a record that cannot be read, or that of the call which the record asks for
 use mathlib.Core.Path.{_≡_}
 use mathlib.Core.List.{List, [], _∷_, _++_, map}
-use Prim.Native.Nat.{ℕ, _+_, _*_, _/_}
+use Prim.Native.Nat.{ℕ, _+_, _*_, _/_, _≤_}
 use lib.ListN.{length, take, drop}
 use Rattle.std.specs.declared.result.Result.the-variants.{Ok, Err}
 use Rattle.refusals.specs.Limits.{Limit, limit}
@@ -44,6 +44,7 @@ texts (l ∷ ls) = texts ls ++ text l
 pub record Filled (v : View) (block old : List ℕ) (n : ℕ) (new : List ℕ) (w : View) : Type 0 where
   pub lines : List Line
   pub size : n ≡ length (texts lines)
+  pub fits : n ≤ length old
   pub bytes : new ≡ texts lines ++ drop n old
   pub fed : Fed block v (count block) lines w
   pub onward : (o : View) (feed : List ℕ) (i : ℕ) (ls : List Line) → length feed ≡ 16 * i → Fed feed o i ls v → Fed (feed ++ block) o (i + count block) (lines ++ ls) w

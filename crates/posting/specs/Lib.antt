@@ -1,3 +1,4 @@
 pub mod Posting
 pub mod Feeds
 pub mod Pages
+pub mod Cards

@@ -15,10 +15,17 @@ use storages::Storage;
 use storages::Tapped;
 
 const RECORD: usize = 16;
+
 const ROOM: usize = 192;
 
 // Posts record i of a block; its line stands from `at` on, and its length is the answer.
-fn post_at<B: Bank, C: Tapped>(basin: &mut Basin<B, C>, block: &[u8], i: usize, page: &mut [u8], at: usize) -> usize
+fn post_at<B: Bank, C: Tapped>(
+    basin: &mut Basin<B, C>,
+    block: &[u8],
+    i: usize,
+    page: &mut [u8],
+    at: usize,
+) -> usize
     requires sound { ⌜ Sound B·Bank C·Storage (now basin) ⌝ }
     requires there { ⌜ 16 * i < length (now block) ⌝ }
     requires room { ⌜ at + 192 ≤ length (now page) ⌝ }
@@ -35,7 +42,11 @@ fn post_at<B: Bank, C: Tapped>(basin: &mut Basin<B, C>, block: &[u8], i: usize, 
 
 // Posts every record of a block, and answers how many bytes of lines stand at the front of the page. The last record may be short.
 // A page with under 192 bytes for each record is refused before anything else is done.
-pub fn post_block<B: Bank, C: Tapped>(basin: &mut Basin<B, C>, block: &[u8], page: &mut [u8]) -> Result<usize, Refusal>
+pub fn post_block<B: Bank, C: Tapped>(
+    basin: &mut Basin<B, C>,
+    block: &[u8],
+    page: &mut [u8],
+) -> Result<usize, Refusal>
     requires { ⌜ Sound B·Bank C·Storage (now basin) ⌝ }
     ensures sound { λ _. ⌜ Sound B·Bank C·Storage (now (basin .exit)) ⌝ }
     ensures filled { λ r. ⌜ Answers (pageLimits (now (block .entry)) (now (page .entry))) r (λ n. Filled (view B·Bank C·Storage (now (basin .entry))) (now (block .entry)) (now (page .entry)) n (now (page .exit)) (view B·Bank C·Storage (now (basin .exit)))) ((now (basin .exit) ≡ now (basin .entry)) × (now (page .exit) ≡ now (page .entry))) ⌝ }

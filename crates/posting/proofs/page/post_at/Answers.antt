@@ -24,4 +24,6 @@ returns g c =
         size = w .printed .size;
         fits = w .printed .fits;
         front = written-front (c .args .page .now) (c .post .last .out) (text (w .told)) (c .args .at) (c .in-Ok .size) room (w .printed .size) (w .printed .bytes);
-        rest = written-rest (c .args .page .now) (c .post .last .out) (text (w .told)) (c .args .at) (c .in-Ok .size) room (w .printed .size) (w .printed .bytes) } }
+        rest = written-rest (c .args .page .now) (c .post .last .out) (text (w .told)) (c .args .at) (c .in-Ok .size) room (w .printed .size) (w .printed .bytes);
+      };
+    }

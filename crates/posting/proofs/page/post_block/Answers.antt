@@ -19,10 +19,16 @@ loop-i-again g c =
     let i = c .loop-i .inv in
     let p = c .post-at-at .ensures .put in
     let at = c .loop-i .at in
-    let n = c .post-at-at .result in
-    (c .post-at-at .ensures .sound, omega (arith, i .1, p .fits),
-      (p .told ∷ i .2 .0, more (i .2 .1) (p .posted), p .front ∙ ap (λ x. x ++ text (p .told)) (i .2 .2),
-       p .rest ∙ sym (drop-drop n at (c .loop-i .page)) ∙ ap (drop n) (i .2 .3) ∙ drop-drop n at (c .args .page .now)))
+    let n = c .post-at-at .result in (
+      c .post-at-at .ensures .sound,
+      omega (arith, i .1, p .fits),
+      (
+        p .told ∷ i .2 .0,
+        more (i .2 .1) (p .posted),
+        p .front ∙ ap (λ x. x ++ text (p .told)) (i .2 .2),
+        p .rest ∙ sym (drop-drop n at (c .loop-i .page)) ∙ ap (drop n) (i .2 .3) ∙ drop-drop n at (c .args .page .now),
+      ),
+    )
 
 pub returns : need.returns
 returns g c =
@@ -37,9 +43,15 @@ returns g c =
     let fed = subst (λ n. Fed block v n (i .2 .0) w) whole (i .2 .1) in
     record {
       sound = i .0;
-      filled = ((omega arith, tt), record {
-        lines = i .2 .0;
-        size = long ∙ ap length (i .2 .2);
-        bytes = sym (take-append-drop at (c .loop-i .page)) ∙ ap (λ x. x ++ drop at (c .loop-i .page)) (i .2 .2) ∙ ap (λ x. texts (i .2 .0) ++ x) (i .2 .3);
-        fed = fed;
-        onward = λ o feed k ls h f. goes-on feed block k h f fed }) }
+      filled = (
+        (omega arith, tt),
+        record {
+          lines = i .2 .0;
+          size = long ∙ ap length (i .2 .2);
+          fits = omega arith;
+          bytes = sym (take-append-drop at (c .loop-i .page)) ∙ ap (λ x. x ++ drop at (c .loop-i .page)) (i .2 .2) ∙ ap (λ x. texts (i .2 .0) ++ x) (i .2 .3);
+          fed = fed;
+          onward = λ o feed k ls h f. goes-on feed block k h f fed;
+        },
+      );
+    }
