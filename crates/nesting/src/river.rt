@@ -3,7 +3,7 @@ ghost use mathlib.Core.Path.{_≡_};
 ghost use Rattle.refusals.specs.Limits.{Answers};
 ghost use Rattle.storages.specs.Meaning.{stepLimits};
 ghost use Rattle.nesting.specs.Pumped.{Pumped};
-ghost use Rattle.nesting.specs.River.{riverMeans, riverTap, riverLimits};
+ghost use Rattle.nesting.specs.River.{riverMeans, riverTap, riverLimits, NewRiver};
 use crate::pumped::hour_and_draw;
 use delay::Delay;
 use delay::DelayStorage;
@@ -29,7 +29,7 @@ pub fn new_river(
     loss: u64,
     ceiling: u64,
 ) -> Result<River, Refusal>
-    ensures { λ r. ⌜ Answers (riverLimits upper lower (now (weights .entry)) loss ceiling) r (λ s. riverMeans .sound s × (riverMeans .holds s ≡ 0) × (riverMeans .limit s ≡ ceiling)) (Unit {0}) ⌝ }
+    ensures { λ r. ⌜ Answers (riverLimits upper lower (now (weights .entry)) loss ceiling) r (λ s. NewRiver upper lower (now (weights .entry)) loss ceiling s) (Unit {0}) ⌝ }
 {
     let above = Recession::new(upper, ceiling)?;
     let below = Recession::new(lower, ceiling)?;
