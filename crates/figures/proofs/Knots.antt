@@ -9,7 +9,7 @@ use lib.ListN.{length, drop}
 use Rattle.std.proofs.shelf.Lists.{at-drop-more}
 use Rattle.std.proofs.shelf.Tests.{lt-ltb, le-ltb, cond-true, cond-false}
 use Rattle.std.proofs.shelf.Ways.{tells}
-use Rattle.figures.specs.Curve.{along, at, between, place, knot, upperKnots, groundKnots, Rises, Apart, Through}
+use Rattle.figures.specs.Curve.{along, at, between, curve, place, knot, upperKnots, groundKnots, Rises, Apart, Through}
 use Rattle.figures.specs.declared.curve.Knot.{Knot}
 
 -- knot i stands at q
@@ -54,15 +54,21 @@ ahead n p [] r i h = omega arith
 ahead n p (k ∷ ks) r zero h = r .0
 ahead n p (k ∷ ks) r (suc i) h = let l = ahead n (place n k) ks (r .1) i (omega arith) in let m = r .0 in omega arith
 
-pub along-through : (n p v : ℕ) (ks : List Knot) → Rises n p ks → (i : ℕ) → i < length ks → along n (place n (at ks i)) p v ks ≡ at ks i .value
+-- a curve has a knot's value where that knot stands
+along-through : (n p v : ℕ) (ks : List Knot) → Rises n p ks → (i : ℕ) → i < length ks → along n (place n (at ks i)) p v ks ≡ at ks i .value
 along-through n p v [] r i h = absurd (omega arith)
 along-through n p v (k ∷ ks) r zero h = cond-false _ _ _ (le-ltb (place n k) (place n k) (omega arith)) ∙ along-start n (place n k) (k .value) ks (r .1)
 along-through n p v (k ∷ ks) r (suc i) h =
     let l = ahead n (place n k) ks (r .1) i (omega arith) in
     cond-false _ _ _ (le-ltb (place n (at ks i)) (place n k) (omega arith)) ∙ along-through n (place n k) (k .value) ks (r .1) i (omega arith)
 
+-- from its beginning through every knot
+through : (n v : ℕ) (ks : List Knot) → Rises n 0 ks
+    → (curve n 0 v ks ≡ v) × ((i : ℕ) → i < length ks → curve n (place n (at ks i)) v ks ≡ at ks i .value)
+through n v ks r = (along-start n 0 v ks r, along-through n 0 v ks r)
+
 pub upper-through : Through 50000 2000000 1048576 upperKnots
-upper-through n l h = along-through n 0 1048576 upperKnots (upper-apart n l h)
+upper-through n l h = through n 1048576 upperKnots (upper-apart n l h)
 
 pub ground-through : Through 2000000 15000000 0 groundKnots
-ground-through n l h = along-through n 0 0 groundKnots (ground-apart n l h)
+ground-through n l h = through n 0 groundKnots (ground-apart n l h)

@@ -8,19 +8,19 @@ use borrow.Author.Needs.{needs}
 use lib.Dec.{lit<}
 use Rattle.std.proofs.shelf.Bits.{pow-add}
 use Rattle.std.proofs.shelf.Tests.{cases-lt}
-use Rattle.figures.specs.Power.{T, TableStands, power, Powered}
+use Rattle.figures.specs.Power.{entry, TableStands, power, Powered}
 
 -- the rule as a test of an entry and of the number above it
-record Entry (k t : ℕ) : Type 0 where
+record Bounds (k t : ℕ) : Type 0 where
   fits : t ^ 16 ≤ 2 ^ (256 + k)
   past : 2 ^ (256 + k) < (t + 1) ^ 16
   least : 65536 ≤ t
   most : t ≤ 125514
 
-entries : (k : ℕ) → k < 16 → Entry k (T k)
+entries : (k : ℕ) → k < 16 → Bounds k (entry k)
 entries k h = search needs
 
-pub entry-small : (k : ℕ) → k < 16 → T k < 2 ^ 17
+pub entry-small : (k : ℕ) → k < 16 → entry k < 2 ^ 17
 entry-small k h = let e = entries k h in omega arith
 
 pub table-stands : TableStands
@@ -28,15 +28,15 @@ table-stands k h =
     let e = entries k h in
     record {
       fits = e .fits;
-      greatest = λ d f. elim (cases-lt (T k) d) [ inl l ↦ let q : T k + 1 ≤ d = omega arith in let p = pow-le-pow-left q 16 in omega arith | inr l ↦ l ];
+      greatest = λ d f. elim (cases-lt (entry k) d) [ inl l ↦ let q : entry k + 1 ≤ d = omega arith in let p = pow-le-pow-left q 16 in omega arith | inr l ↦ l ];
     }
 
 -- entries grow, since what fits below a smaller power fits below a greater one
-rising : (j k : ℕ) → j ≤ k → k < 16 → T j ≤ T k
+rising : (j k : ℕ) → j ≤ k → k < 16 → entry j ≤ entry k
 rising j k h l =
     let e = entries j (omega arith) in
     let p : 2 ^ (256 + j) ≤ 2 ^ (256 + k) = pow-le-pow-right (lit< tt) (omega arith) in
-    table-stands k l .greatest (T j) (omega arith)
+    table-stands k l .greatest (entry j) (omega arith)
 
 -- an entry at most once more doubled, times a power of two
 doubled : (s t i j : ℕ) → s ≤ 2 * t → i < j → s * 2 ^ i ≤ t * 2 ^ j
@@ -53,7 +53,7 @@ power-grows e f h =
       | inl l ↦
           let a = entries (e % 16) (omega arith) in
           let b = entries (f % 16) (omega arith) in
-          doubled (T (e % 16)) (T (f % 16)) (e / 16) (f / 16) (omega arith) l
+          doubled (entry (e % 16)) (entry (f % 16)) (e / 16) (f / 16) (omega arith) l
       | inr l ↦
           let t = rising (e % 16) (f % 16) (omega arith) (omega arith) in
           let i : e / 16 ≤ f / 16 = omega arith in

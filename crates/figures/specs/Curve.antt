@@ -3,6 +3,9 @@
 --   between p v p′ w z    the value at z on the straight piece from v at p to w at p′
 --   along n z p v ks      the value at z, past a knot at p with value v, with the knots ks ahead
 --   curve n z v ks        the value at z of the curve that begins with v at content 0
+--   upperPart n z         the part of slope water that the upper zone keeps, in 1,048,576ths
+--   groundPart n z        the part of infiltration and percolation that goes to groundwater, likewise
+--   Apart, Through        the knots stand apart, and the curve goes through them
 use mathlib.Core.Path.{_≡_}
 use mathlib.Core.Bool.{cond}
 use mathlib.Core.List.{List, [], _∷_}
@@ -30,11 +33,11 @@ curve n z v ks = along n z 0 v ks
 abbrev pub knot : ℕ → ℕ → ℕ → Knot
 knot m d v = record { multiple = m; denominator = d; value = v }
 
--- the part of slope water that the upper zone keeps, after 1,048,576 at content 0
+-- the upper zone's knots, after 1,048,576 at content 0
 abbrev pub upperKnots : List Knot
 upperKnots = knot 1 1 990321 ∷ knot 2 1 524288 ∷ knot 5 2 116508 ∷ knot 3 1 16384 ∷ knot 7 2 1677 ∷ knot 4 1 134 ∷ []
 
--- the part of infiltration and percolation that goes to groundwater, after 0 at content 0
+-- the lower zone's knots, after 0 at content 0
 abbrev pub groundKnots : List Knot
 groundKnots = knot 1 3 38836 ∷ knot 1 1 524288 ∷ knot 5 3 932067 ∷ knot 7 3 1032192 ∷ knot 3 1 1046898 ∷ []
 
@@ -61,6 +64,8 @@ Rises n p (k ∷ ks) = (p < place n k) × Rises n (place n k) ks
 abbrev pub Apart : ℕ → ℕ → List Knot → Type 0
 Apart low high ks = (n : ℕ) → low ≤ n → n ≤ high → Rises n 0 ks
 
--- the curve goes through every knot, for every nominal content from low to high
+-- the curve begins with v and goes through every knot, for every nominal content from low to high
 abbrev pub Through : ℕ → ℕ → ℕ → List Knot → Type 0
-Through low high v ks = (n : ℕ) → low ≤ n → n ≤ high → (i : ℕ) → i < length ks → curve n (place n (at ks i)) v ks ≡ at ks i .value
+Through low high v ks =
+    (n : ℕ) → low ≤ n → n ≤ high
+    → (curve n 0 v ks ≡ v) × ((i : ℕ) → i < length ks → curve n (place n (at ks i)) v ks ≡ at ks i .value)

@@ -1,9 +1,9 @@
 // Powers of two by sixteenths of an exponent, in 65,536ths.
 ghost use mathlib.Core.Path.{_≡_};
 ghost use Prim.Native.Nat.{_<_};
-ghost use Rattle.figures.specs.Power.{Powered, T, TableStands};
+ghost use Rattle.figures.specs.Power.{Powered, entry, TableStands};
 
-// Entry k is the greatest whole number whose 16th power is at most 2^(256 + k).
+// Bounds k is the greatest whole number whose 16th power is at most 2^(256 + k).
 const SIXTEENTHS: [u64; 16] = [
     65_536,
     68_437,
@@ -26,7 +26,7 @@ const SIXTEENTHS: [u64; 16] = [
 // The table's entry k.
 fn sixteenth(k: u8) -> u64
     requires { ⌜ k < 16 ⌝ }
-    ensures { λ r. ⌜ r ≡ T k ⌝ }
+    ensures { λ r. ⌜ r ≡ entry k ⌝ }
 {
     SIXTEENTHS[k as usize]
 }

@@ -1,4 +1,5 @@
 -- A chain: one storage above another.
+--   chainLimits   what a chain may be made of
 --   both s        both contents
 --   lesser s      the lesser ceiling
 --   Linked s      what a chain's making gives and every call keeps
@@ -38,3 +39,8 @@ module _ {A B : Type 0} (G : storage.Ghosts A) (H : storage.Ghosts B) where
     pub above : G .steps (s .above) i d upper (t .above)
     pub below : H .steps (s .below) (upper .0) (d - upper .1) lower (t .below)
     pub answer : o ≡ (lower .0, upper .1 + lower .1, upper .2 + lower .2)
+
+  -- a draw of n empties the one below before it takes from the one above
+  pub record ChainDrawn (P : tapped.Ghosts A) (Q : tapped.Ghosts B) (s : Chain A B) (n : ℕ) (t : Chain A B) : Type 0 where
+    pub below : Q .draws (s .below) (min n (H .holds (s .below))) (t .below)
+    pub above : P .draws (s .above) (n - H .holds (s .below)) (t .above)

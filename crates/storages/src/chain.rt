@@ -1,8 +1,7 @@
 // A chain: one storage above another, which it feeds.
 ghost use mathlib.Core.Path.{_≡_};
-ghost use Prim.Native.Nat.{_-_, min};
 ghost use Rattle.refusals.specs.Limits.{Answers};
-ghost use Rattle.storages.specs.Chain.{chainLimits, both, lesser, Linked, Chained};
+ghost use Rattle.storages.specs.Chain.{chainLimits, both, lesser, Linked, Chained, ChainDrawn};
 use crate::hour::hour;
 use crate::meaning::Storage;
 use crate::meaning::Tapped;
@@ -59,7 +58,7 @@ pub impl<A: Storage, B: Storage> Storage for Chain<A, B> as ChainStorage {
 }
 
 pub impl<A: Tapped, B: Tapped> Tapped for Chain<A, B> as ChainTapped {
-    ghost draws = { λ s n t. B·Tapped .draws (s .below) (min n (B·Storage .holds (s .below))) (t .below) × A·Tapped .draws (s .above) (n - B·Storage .holds (s .below)) (t .above) };
+    ghost draws = { λ s n t. ChainDrawn A·Storage B·Storage A·Tapped B·Tapped s n t };
 
     fn draw(&mut self, amount: u64) -> Result<(), Refusal> {
         let held = self.below.content();
