@@ -23,7 +23,7 @@ pub struct Segment<S: Storage, I: Storage, G: Storage> {
 }
 
 impl<S: Storage, I: Storage, G: Storage> Segment<S, I, G> {
-    // Dry land over three storages, which keep what they hold; a refusal gives them up.
+    // Dry land over three storages, which keep what they hold; a refusal gives them up. The laws of the hour hold of every card.
     pub fn new(
         card: Card,
         slope: S,
@@ -40,22 +40,38 @@ impl<S: Storage, I: Storage, G: Storage> Segment<S, I, G> {
         ensures made { λ r. ⌜ Answers (segmentLimits S·Storage I·Storage G·Storage (bare card slope interflow groundwater)) r (λ s. Whole S·Storage I·Storage G·Storage s × (s ≡ bare card slope interflow groundwater)) (Unit {0}) ⌝ }
         ensures laws { λ _. ⌜ HourLaws ⌝ }
     {
-        let ceiling = least_of(slope.ceiling(), interflow.ceiling(), groundwater.ceiling());
-        if slope.content() + interflow.content() + groundwater.content() > ceiling {
-            return Err(Refusal::JoinedContents);
-        }
-        Ok(Segment {
-            card,
-            zones: Zones {
-                interception: 0,
-                upper: 0,
-                lower: 0,
-            },
-            slope,
-            interflow,
-            groundwater,
-        })
+        dry_land(card, slope, interflow, groundwater)
     }
+}
+
+// Dry land, if the contents of its storages fit its ceiling.
+fn dry_land<S: Storage + Drop, I: Storage + Drop, G: Storage + Drop>(
+    card: Card,
+    slope: S,
+    interflow: I,
+    groundwater: G,
+) -> Result<Segment<S, I, G>, Refusal>
+    requires slope { ⌜ S·Storage .sound slope ⌝ }
+    requires interflow { ⌜ I·Storage .sound interflow ⌝ }
+    requires groundwater { ⌜ G·Storage .sound groundwater ⌝ }
+    ensures { λ r. ⌜ Answers (segmentLimits S·Storage I·Storage G·Storage (bare card slope interflow groundwater)) r (λ s. Whole S·Storage I·Storage G·Storage s × (s ≡ bare card slope interflow groundwater)) (Unit {0}) ⌝ }
+{
+    let ceiling = least_of(slope.ceiling(), interflow.ceiling(), groundwater.ceiling());
+    if slope.content() + interflow.content() + groundwater.content() > ceiling {
+        return Err(Refusal::JoinedContents);
+    }
+    let zones = Zones {
+        interception: 0,
+        upper: 0,
+        lower: 0,
+    };
+    Ok(Segment {
+        card,
+        zones,
+        slope,
+        interflow,
+        groundwater,
+    })
 }
 
 // The ceiling over three storages: the least of theirs and 10^8.

@@ -40,7 +40,7 @@ fn answer<B: Bank, C: Tapped>(basin: &mut Basin<B, C>, bytes: &[u8]) -> Line
             Line::Turn { streamflow, deep }
         }
         Ok(Event::Closing) => Line::Closing(basin.closing()),
-        Err(refusal) => Line::Refused(refusal.notice()),
+        Err(unread) => Line::Refused(unread.notice()),
     }
 }
 
