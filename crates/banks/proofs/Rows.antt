@@ -3,17 +3,15 @@ use mathlib.Core.Path.{_≡_, refl, sym, ap, _∙_}
 use mathlib.Core.List.{List, [], _∷_}
 use Prim.Native.Nat.{ℕ, zero, suc, _+_, _*_, _<_, _≤_}
 use native.Mathlib.Omega.{arith}
-use native.Mathlib.Nat.{mul-add, mul-comm, mul-le-mul-right, mul-le-mul-left}
+use native.Mathlib.Nat.{mul-add, mul-comm}
+use Rattle.std.proofs.shelf.Bits.{mul-le}
 use lib.ListN.{length, getD, set, length-set}
 use Rattle.storages.specs.Meaning.{Out, Stepped}
 use Rattle.banks.specs.Rows.{Tract, tract, at, volume, areas, Fit, Bounded, Rained}
 
-pub product-le : (a b m n : ℕ) → a ≤ m → b ≤ n → a * b ≤ m * n
-product-le a b m n h k = let x = mul-le-mul-right b h in let y = mul-le-mul-left m k in omega arith
-
 -- the water on one segment
 pub tract-volume : (t : Tract) → Fit t → t .area * t .content ≤ 500000000000
-tract-volume t f = product-le (t .area) (t .content) 5000 100000000 (f .area) (omega (arith, f .content, f .ceiling))
+tract-volume t f = mul-le (t .area) (t .content) 5000 100000000 (f .area) (omega (arith, f .content, f .ceiling))
 
 volume-each : (ts : List Tract) → ((k : ℕ) → k < length ts → Fit (at ts k)) → volume ts ≤ length ts * 500000000000
 volume-each [] f = omega arith

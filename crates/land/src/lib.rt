@@ -6,6 +6,8 @@ mod parts;
 mod seepage;
 mod segment;
 mod surface;
+#[cfg(test)]
+mod tests;
 mod water;
 
 pub use segment::Segment;

@@ -8,7 +8,7 @@ use card::Card;
 use figures::curve::groundwater_part;
 
 // What percolates where the upper zone is the wetter, by the cube of the difference.
-fn percolation(card: &Card, upper: u64, lower: u64) -> u64
+pub(crate) fn percolation(card: &Card, upper: u64, lower: u64) -> u64
     requires upper { ⌜ upper ≤ 100000000 ⌝ }
     requires lower { ⌜ lower ≤ 100000000 ⌝ }
     ensures value { λ r. ⌜ r ≡ percolationOf (now (card .entry)) upper lower ⌝ }
