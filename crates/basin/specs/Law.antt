@@ -1,13 +1,7 @@
--- The law of the book, over every list of calls on any number of basins.
---
+-- The law of the book, over every list of calls on any number of basins. Lists have the latest first.
 -- A basin is known here by its view, so that basins over different banks and channels stand in one list. What a call does is a
 -- relation C between the view before, the call with its answer, and the view after: specs/Calls.antt has the one that the
--- contracts of the calls cite, and the contract of opening a basin states the law of it. Lists have the latest first.
---
---   View    what can be seen of a basin           Entry          a call on a basin, with its answer
---   Story   a basin as opened, its entries,       whole, since   the tally: sums of a story's entries, over all of them
---           and as it stands                                     and since the last closing
---   Ran     what a list of happenings leads to    Lawful         what holds after each of them
+-- contracts of the calls cite, and the contract of opening a basin states the law of it.
 use mathlib.Core.Path.{_≡_}
 use mathlib.Core.List.{List, [], _∷_}
 use mathlib.Core.Logic.{_⊎_}
@@ -130,6 +124,10 @@ Hands (byPour n r) ps qs = Cases r (λ u. One (λ p q. (p .amount ≡ n) × (q .
 Hands (byClosing b) ps qs = qs ≡ ps
 Hands (byQuestion b) ps qs = qs ≡ ps
 
+-- booking a parcel answers its amount
+abbrev pub Booked : Parcel → ℕ → Type 0
+Booked p n = n ≡ p .amount
+
 -- a basin is opened, one is called, or a parcel is booked, with the answer; an empty parcel that is let go counts as booked for 0
 pub data Happening : Type 0 where
   opening : View → Happening
@@ -139,7 +137,7 @@ pub data Happening : Type 0 where
 abbrev pub Happens : (View → Entry → View → Type 0) → Happening → State → State → Type 0
 Happens C (opening v) s t = New v × (t ≡ joined v s)
 Happens C (call e) s t = One (Goes C e) (s .stories) (t .stories) × Hands e (s .parcels) (t .parcels) × (t .booked ≡ s .booked)
-Happens C (booking p n) s t = (n ≡ p .amount) × (t .stories ≡ s .stories) × Less p (s .parcels) (t .parcels) × (t .booked ≡ s .booked + n)
+Happens C (booking p n) s t = Booked p n × (t .stories ≡ s .stories) × Less p (s .parcels) (t .parcels) × (t .booked ≡ s .booked + n)
 
 abbrev pub Ran : (View → Entry → View → Type 0) → List Happening → State → State → Type 0
 Ran C [] s t = t ≡ s

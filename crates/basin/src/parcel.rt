@@ -1,6 +1,6 @@
 // Water drawn from a channel, until it is poured or booked.
 ghost use mathlib.Core.Path.{_≡_};
-ghost use Prim.Native.Nat.{ℕ};
+ghost use Rattle.basin.specs.Law.{Booked};
 
 // Drawn water. A parcel may be let go only when it is empty: pour it or book it first.
 pub struct Parcel {
@@ -25,7 +25,7 @@ impl Parcel {
 
     // Books the parcel out: ends it, and answers its amount.
     pub fn book(self) -> u64
-        ensures { λ r. ⌜ r ≡ self .amount ⌝ }
+        ensures { λ r. ⌜ Booked self r ⌝ }
     {
         let Parcel { amount } = self;
         amount

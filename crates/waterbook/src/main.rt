@@ -14,6 +14,7 @@ use posting::CardBasin;
 use posting::open;
 use posting::post_block;
 use refusals::Refusal;
+use std::error::AnyError;
 use std::fs;
 use std::io;
 use std::io::Read;
@@ -88,14 +89,21 @@ fn refuse<W: Write>(refusal: Refusal, output: &mut W) -> io::Result<()> {
     let mut page = [0u8; 192];
     match Line::Refused(refusal.notice()).write(&mut page) {
         Ok(size) => output.write_all(&page[0..size]),
-        Err(_) => Ok(()),
+        Err(_) => unreachable(),
     }
 }
 
-fn main(rt: LibcRuntime) -> io::Result<()> {
+// The whole of the program's work.
+fn work(rt: &LibcRuntime) -> Result<(), AnyError> {
     let mut output = rt.stdout();
-    match opened(&rt) {
-        Ok(mut basin) => run(&mut basin, &mut rt.stdin(), &mut output),
-        Err(refusal) => refuse(refusal, &mut output),
+    match opened(rt) {
+        Ok(mut basin) => run(&mut basin, &mut rt.stdin(), &mut output)?,
+        Err(refusal) => refuse(refusal, &mut output)?,
     }
+    Ok(())
+}
+
+// An input that cannot be read or an output that cannot be written ends the program with a message and status 1.
+fn main(rt: LibcRuntime) -> Result<(), AnyError> {
+    rt.report(work(&rt))
 }
