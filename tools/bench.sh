@@ -1,6 +1,6 @@
 #!/usr/bin/env bash
-# Times waterbook beside the second engine on two million records, best of several runs in turn, with peak memory and,
-# where valgrind is at hand, instructions a record.
+# Times waterbook beside the second engine on two million records, best of several runs in turn, with peak memory and
+# instructions a record where /usr/bin/time and valgrind are at hand.
 #   tools/bench.sh [RUNS]      after 'rt check'; nine runs where no number is given
 set -euo pipefail
 cd "$(dirname "$0")/.."
@@ -37,9 +37,14 @@ for _ in range(runs):
         best[p] = min(best[p], after.ru_utime + after.ru_stime - before.ru_utime - before.ru_stime)
 for p in programs:
     print(f"{os.path.basename(p)}: {best[p]:.3f} s for 2,000,000 records, {best[p] * 500:.0f} ns a record")
-print(f"ratio {best[programs[0]] / best[programs[1]]:.2f}; peak memory of either at most {resource.getrusage(resource.RUSAGE_CHILDREN).ru_maxrss} KB")
+print(f"ratio {best[programs[0]] / best[programs[1]]:.2f}")
 PY
 cmp waterbook.out engine.out
+if [ -x /usr/bin/time ]; then
+    for program in "$waterbook" ./engine; do
+        /usr/bin/time -f "$(basename "$program"): peak memory %M KB" "$program" < feed > /dev/null
+    done
+fi
 if command -v valgrind > /dev/null; then
     for program in "$waterbook" ./engine; do
         count=$(valgrind --tool=callgrind --callgrind-out-file=/dev/null "$program" < short 2>&1 > /dev/null | awk '/Collected/ { print $4 }')
