@@ -1,5 +1,5 @@
 -- The law of the book, over every list of calls on any number of basins. Lists have the latest first.
--- A basin is known here by its view, so that basins over different banks and channels stand in one list. What a call does is a
+-- A basin is known here by its view (specs/Views.antt), so that basins over different banks and channels stand in one list. What a call does is a
 -- relation C between the view before, the call with its answer, and the view after: specs/Calls.antt has the one that the
 -- contracts of the calls cite, and the contract of opening a basin states the law of it.
 use mathlib.Core.Path.{_≡_}
@@ -8,51 +8,18 @@ use mathlib.Core.Logic.{_⊎_}
 use Prim.Native.Nat.{ℕ, _+_, _-_, _*_, _≤_, _<_}
 use lib.ListN.{length, getD}
 use Rattle.std.specs.Results.{Cases}
-use Rattle.std.specs.declared.result.Result.{Result}
 use Rattle.std.specs.declared.result.Result.the-variants.{Ok, Err}
-use Rattle.refusals.specs.declared.Refusal.{Refusal}
-use Rattle.storages.specs.Meaning.{Out, top}
-use Rattle.banks.specs.Rows.{Tract, at, volume, areas, Bounded}
+use Rattle.storages.specs.Meaning.{top}
+use Rattle.banks.specs.Rows.{at, areas, Bounded}
 use Rattle.basin.specs.Lists.{All, total, One, Less}
+pub use Rattle.basin.specs.Views.{View, held, Entry, byRain, byTurn, byDraw, byPour, byClosing, byQuestion, sumsOf, fresh, granted}
 use Rattle.basin.specs.declared.book.Book.{Book}
 use Rattle.basin.specs.declared.book.Sums.{Sums}
 use Rattle.basin.specs.declared.parcel.Parcel.{Parcel}
 
--- the segments, the water on its way to the channel, the channel's content and ceiling, and the sums of the open book
-pub record View : Type 0 where
-  pub tracts : List Tract
-  pub pocket : ℕ
-  pub channel : ℕ
-  pub ceiling : ℕ
-  pub sums : Sums
-
--- water held: on the segments, in the pocket and in the channel
-abbrev pub held : View → ℕ
-held v = volume (v .tracts) + v .pocket + v .channel
-
--- rain on a segment (depth, demand), turn (streamflow, deep), draw of an amount, pour of what a parcel held, closing, question
-pub data Entry : Type 0 where
-  byRain : (k depth demand : ℕ) → Result Out Refusal → Entry
-  byTurn : (flow deep : ℕ) → Entry
-  byDraw : ℕ → Result Parcel Refusal → Entry
-  byPour : ℕ → Result (Unit {0}) Refusal → Entry
-  byClosing : Book → Entry
-  byQuestion : Book → Entry
-
-abbrev pub sumsOf : (opening rain streamflow evaporated deep drawn poured : ℕ) → Sums
-sumsOf o r f e d w p = record { opening = o; rain = r; streamflow = f; evaporated = e; deep = d; drawn = w; poured = p }
-
-abbrev pub fresh : ℕ → Sums
-fresh water = sumsOf water 0 0 0 0 0 0
-
 -- all that came in is all that went out and what is held
 abbrev pub Even : Sums → ℕ → Type 0
 Even s water = s .opening + s .rain + s .poured ≡ s .streamflow + s .evaporated + s .deep + s .drawn + water
-
--- a refusal adds nothing
-abbrev pub granted : {T : Type 0} → Result T Refusal → Sums → (T → Sums) → Sums
-granted (Ok x) s f = f x
-granted (Err e) s f = s
 
 -- what an entry adds to sums, by the areas of the segments
 abbrev pub added : List ℕ → Entry → Sums → Sums
