@@ -1,4 +1,4 @@
-// Worked cases: figures known by hand, and a basin in which every call is granted and every refusal of the engine is met.
+// Worked cases: figures known by hand, and a basin in which every call is granted and most refusals of the engine are met.
 ghost use Rattle.worked.specs.Cases.{WorkedCases};
 
 #[cfg(test)]

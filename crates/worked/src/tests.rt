@@ -1,4 +1,4 @@
-// A basin in which every kind of call is granted and every refusal of the engine is met.
+// A basin in which every kind of call is granted, and the refusals 6 to 8, 10, 14 to 18, 20 and 21 are met.
 use banks::Pair;
 use banks::PairBank;
 use banks::Plot;
