@@ -1,4 +1,6 @@
 // Banks: rows of land segments that rain falls on.
+#![tactic(auto)]
+
 mod meaning;
 mod pair;
 mod plot;

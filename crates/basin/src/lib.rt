@@ -1,4 +1,6 @@
 // A basin: a bank, a tapped channel, the water on its way between them, and the book.
+#![tactic(auto)]
+
 mod basin;
 mod book;
 mod parcel;

@@ -1,4 +1,6 @@
 // The parameter card: fourteen records of a name and a figure, checked.
+#![tactic(auto)]
+
 ghost use Rattle.std.specs.Prelude.{◌≡◌, length, IfOk};
 ghost use Rattle.std.specs.Result.{result_err};
 ghost use Rattle.card.specs.Cards.{Figures, records_fault, fault_of};

@@ -1,4 +1,6 @@
 // Stored cases: cards and feeds, good and damaged, held against the lines that a second engine gave for them.
+#![tactic(auto)]
+
 ghost use Rattle.std.specs.Prelude.{◌≡◌, ℕ, length};
 ghost use Rattle.basin.specs.Basins.{Sound};
 

@@ -1,4 +1,6 @@
 // A river through one wet day: what flows in, what flows out, what goes deep, what is drawn, what is held.
+#![tactic(auto)]
+
 ghost use Rattle.nesting.specs.River.{river_means};
 
 use anyhow::anyhow;

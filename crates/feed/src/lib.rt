@@ -1,4 +1,6 @@
 // The feed: records of sixteen bytes, each read as an event.
+#![tactic(auto)]
+
 ghost use Rattle.std.specs.Prelude.{◌≡◌, ℕ, ◌+◌, ◌≤◌, ◌∷◌, length, IfOk};
 ghost use Rattle.feed.specs.Reading.{blank, word, rain_of, bare_of, lettered, reading, record_of};
 

@@ -1,4 +1,6 @@
 // Figures: the exact arithmetic on whole numbers that the land and its storages rest on.
+#![tactic(auto)]
+
 pub mod curve;
 pub mod power;
 pub mod root;

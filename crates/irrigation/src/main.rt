@@ -1,4 +1,6 @@
 // Two days at a small basin: a storm on two plots, a pump at the channel, and the book beside the clerk's own tally.
+#![tactic(auto)]
+
 ghost use Rattle.std.specs.Prelude.{ℕ};
 ghost use Rattle.basin.specs.Basins.{Sound};
 

@@ -1,4 +1,6 @@
 // The land: what an hour does with rain and demand on one segment.
+#![tactic(auto)]
+
 mod division;
 mod evaporation;
 mod flows;

@@ -1,4 +1,6 @@
 // Printed lines: one for each record of a feed.
+#![tactic(auto)]
+
 ghost use Rattle.std.specs.Prelude.{◌≡◌, length};
 ghost use Rattle.refusals.specs.Limits.{Answers};
 ghost use Rattle.lines.specs.Text.{text, buffer_limits, Printed};

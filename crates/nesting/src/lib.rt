@@ -1,4 +1,6 @@
 // Kinds nest: what is made of tapped storages is a tapped storage, here a river.
+#![tactic(auto)]
+
 mod pumped;
 mod river;
 #[cfg(test)]

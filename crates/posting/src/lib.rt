@@ -1,4 +1,6 @@
 // Posting: from the bytes of a card and a feed to calls on a basin, and from their answers to lines.
+#![tactic(auto)]
+
 mod opening;
 mod page;
 mod record;

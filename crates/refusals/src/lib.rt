@@ -1,4 +1,6 @@
 // Why a call is refused: one case for each rule that can be broken.
+#![tactic(auto)]
+
 ghost use Rattle.std.specs.Prelude.{◌≡◌};
 ghost use Rattle.refusals.specs.Notices.{notice_of};
 

@@ -1,4 +1,6 @@
 // Storages: what holds water, from a pond to a channel.
+#![tactic(auto)]
+
 mod chain;
 pub mod hour;
 mod leak;

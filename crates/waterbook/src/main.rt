@@ -1,4 +1,6 @@
 // waterbook: reads card.dat and a feed from standard input, and prints a line for each record.
+#![tactic(auto)]
+
 ghost use Rattle.std.specs.Prelude.{ℕ, ◌≤◌, length, IfOk};
 ghost use Rattle.basin.specs.Basins.{Sound};
 ghost use Rattle.posting.specs.Cards.{plots, channels};

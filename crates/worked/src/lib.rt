@@ -1,4 +1,6 @@
 // Worked cases: figures known by hand, and a basin in which every call is granted and most refusals of the engine are met.
+#![tactic(auto)]
+
 ghost use Rattle.worked.specs.Cases.{WorkedCases};
 ghost use Rattle.worked.specs.Runs.{WorkedRuns};
 
