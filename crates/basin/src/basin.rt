@@ -94,7 +94,7 @@ impl<B: Bank, C: Tapped> Basin<B, C> {
         requires { Sound B.Bank C.Storage self.old }
         ensures sound { Sound B.Bank C.Storage self.new }
         ensures called { Called (view B.Bank C.Storage self.old) (by_rain segment depth demand result) (view B.Bank C.Storage self.new) }
-        ensures moved { Moved B.Bank C.Storage C.Tapped self.old (by_rain segment depth demand result) self.new }
+        ensures moved { Moved B.Bank C.Storage C.Tapped.own self.old (by_rain segment depth demand result) self.new }
     {
         let area = self.admit(segment, depth, demand)?;
         Ok(self.rain_admitted(segment, depth, demand, area))
@@ -126,7 +126,7 @@ impl<B: Bank, C: Tapped> Basin<B, C> {
         requires { Sound B.Bank C.Storage self.old }
         ensures sound { Sound B.Bank C.Storage self.new }
         ensures called { Called (view B.Bank C.Storage self.old) (by_turn result.0 result.1) (view B.Bank C.Storage self.new) }
-        ensures moved { Moved B.Bank C.Storage C.Tapped self.old (by_turn result.0 result.1) self.new }
+        ensures moved { Moved B.Bank C.Storage C.Tapped.own self.old (by_turn result.0 result.1) self.new }
     {
         let pocket = self.pocket;
         let (streamflow, deep) = take(&mut self.channel, pocket);
@@ -141,7 +141,7 @@ impl<B: Bank, C: Tapped> Basin<B, C> {
         requires { Sound B.Bank C.Storage self.old }
         ensures sound { Sound B.Bank C.Storage self.new }
         ensures called { Called (view B.Bank C.Storage self.old) (by_draw amount result) (view B.Bank C.Storage self.new) }
-        ensures moved { Moved B.Bank C.Storage C.Tapped self.old (by_draw amount result) self.new }
+        ensures moved { Moved B.Bank C.Storage C.Tapped.own self.old (by_draw amount result) self.new }
     {
         if amount == 0 {
             return Err(Refusal::DrawAmount);
@@ -156,7 +156,7 @@ impl<B: Bank, C: Tapped> Basin<B, C> {
         requires { Sound B.Bank C.Storage self.old }
         ensures sound { Sound B.Bank C.Storage self.new }
         ensures called { Called (view B.Bank C.Storage self.old) (by_pour parcel.old.amount result) (view B.Bank C.Storage self.new) }
-        ensures moved { Moved B.Bank C.Storage C.Tapped self.old (by_pour parcel.old.amount result) self.new }
+        ensures moved { Moved B.Bank C.Storage C.Tapped.own self.old (by_pour parcel.old.amount result) self.new }
         ensures parcel { MatchResult result (λ _. parcel.new.amount ≡ 0) (λ _. parcel.new ≡ parcel.old) }
     {
         let amount = parcel.amount;
@@ -191,7 +191,7 @@ impl<B: Bank, C: Tapped> Basin<B, C> {
         requires { Sound B.Bank C.Storage self.old }
         ensures sound { Sound B.Bank C.Storage self.new }
         ensures called { Called (view B.Bank C.Storage self.old) (by_closing result) (view B.Bank C.Storage self.new) }
-        ensures moved { Moved B.Bank C.Storage C.Tapped self.old (by_closing result) self.new }
+        ensures moved { Moved B.Bank C.Storage C.Tapped.own self.old (by_closing result) self.new }
     {
         let book = self.question();
         self.sums = Sums::fresh(book.held);

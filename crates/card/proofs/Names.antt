@@ -1,22 +1,20 @@
 -- The search for a name among words, one step on and at the end; and what a place says of the name.
 use Rattle.std.proofs.Common.{◌≡◌, ℕ, suc, ◌+◌, ◌-◌, ◌<◌, ◌≤◌, Bool, cond, List, [], ◌∷◌, length, get_or, drop, Some, None, Decides, sym, refl, ap, ◌∙◌, subst, ⊎_elim, arith}
-use Rattle.std.specs.Cmp.Lexicographic.{Matches}
 use Rattle.std.specs.Str.{bytes_eq}
 use Rattle.std.proofs.lemmas.List.{at_drop_more, at_drop_all}
-use Rattle.std.proofs.lemmas.Slice.Eq.{slice_eq-Decides, bytes_eq-Decides}
+use Rattle.std.proofs.lemmas.Slice.Eq.{bytes_eq-Decides}
 use Rattle.std.proofs.lemmas.Bool.{cases_Bool}
-use Rattle.std.proofs.lemmas.Bool.Decides.{same_from_decides, Decides-eqb}
 use Rattle.card.specs.declared.words.Word.{Word}
 use Rattle.card.specs.Words.{words, place_in, place, no_word}
 
 -- r is what `==` answered of the name and the word's
 pub place_more : (ws : List Word) (name known : List ℕ) (k : ℕ) (r : Bool) → k < length ws → known ≡ (get_or ws k no_word).name
-    → Matches (λ (a b : ℕ) (t : Bool). Decides t (a ≡ b)) name known r
+    → r ≡ bytes_eq name known
     → place_in (drop k ws) k name ≡ cond r (Some k) (place_in (drop (k + 1) ws) (k + 1) name)
 place_more ws name known k r lt e m =
     at_drop_more (λ us. place_in us k name) ws k no_word lt
     ∙ ap (λ (x : List ℕ). cond (bytes_eq name x) (Some k) (place_in (drop (k + 1) ws) (k + 1) name)) (sym e)
-    ∙ ap (λ t. cond t (Some k) (place_in (drop (k + 1) ws) (k + 1) name)) (sym (same_from_decides r (bytes_eq name known) (slice_eq-Decides Decides-eqb name known r m) (bytes_eq-Decides name known)))
+    ∙ ap (λ t. cond t (Some k) (place_in (drop (k + 1) ws) (k + 1) name)) (sym m)
 
 pub place_all : (ws : List Word) (name : List ℕ) (k : ℕ) → length ws ≤ k → place_in (drop k ws) k name ≡ None
 place_all ws name k le = at_drop_all (λ us. place_in us k name) ws k le

@@ -16,7 +16,7 @@ use storages::{Storage, Tapped};
 fn answer<B: Bank, C: Tapped>(basin: &mut Basin<B, C>, bytes: &[u8]) -> Line
     requires { Sound B.Bank C.Storage basin.old }
     ensures sound { Sound B.Bank C.Storage basin.new }
-    ensures posts { Posts B.Bank C.Storage C.Tapped basin.old bytes.now result basin.new }
+    ensures posts { Posts B.Bank C.Storage C.Tapped.own basin.old bytes.now result basin.new }
 {
     match feed::read(bytes) {
         Ok(
@@ -52,7 +52,7 @@ pub fn post<B: Bank, C: Tapped>(
 ) -> Result<usize, Refusal>
     requires { Sound B.Bank C.Storage basin.old }
     ensures sound { Sound B.Bank C.Storage basin.new }
-    ensures written { Answers (buffer_limits (length out.old)) result (λ n. Written B.Bank C.Storage C.Tapped basin.old bytes.now out.old n out.new basin.new) ((basin.new ≡ basin.old) × (out.new ≡ out.old)) }
+    ensures written { Answers (buffer_limits (length out.old)) result (λ n. Written B.Bank C.Storage C.Tapped.own basin.old bytes.now out.old n out.new basin.new) ((basin.new ≡ basin.old) × (out.new ≡ out.old)) }
 {
     if out.len() < 192 {
         return Err(Refusal::ShortBuffer);

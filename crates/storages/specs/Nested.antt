@@ -11,7 +11,7 @@ use Rattle.storages.specs.declared.leak.Leak.{Leak}
 use Rattle.storages.specs.declared.meaning.Storage as storage
 use Rattle.storages.specs.declared.meaning.Tapped as tapped
 
-abbrev pub leaking : {A : Type 0} → storage.Ghosts A → storage.Ghosts (Leak A)
+abbrev pub leaking : {A : Type 0} → (G : storage.Ghosts A) → storage.Ghosts (Leak A G)
 leaking G =
     record {
       sound = λ s. G.sound s.below;
@@ -20,8 +20,8 @@ leaking G =
       steps = λ s i d o t. Leaks G s.loss s.below i d o t.below × (t.loss ≡ s.loss);
     }
 
-abbrev pub leak_tap : {A : Type 0} → tapped.Ghosts A → tapped.Ghosts (Leak A)
-leak_tap P = record { draws = λ s n t. P.draws s.below n t.below × (t.loss ≡ s.loss) }
+abbrev pub leak_tap : {A : Type 0} (G : storage.Ghosts A) → tapped.Ghosts A → tapped.Ghosts (Leak A G)
+leak_tap G P = record { draws = λ s n t. P.draws s.below n t.below × (t.loss ≡ s.loss) }
 
 abbrev pub chaining : {A B : Type 0} → storage.Ghosts A → storage.Ghosts B → storage.Ghosts (Chain A B)
 chaining G H = record { sound = Linked G H; holds = both G H; limit = lesser G H; steps = Chained G H }

@@ -65,7 +65,7 @@ impl<A: Storage, B: Storage> Storage for Chain<A, B> {
 }
 
 impl<A: Tapped, B: Tapped> Tapped for Chain<A, B> {
-    ghost draws = { λ s n t. ChainDrawn A.Storage B.Storage A.Tapped B.Tapped s n t };
+    ghost draws = { λ s n t. ChainDrawn A.Storage B.Storage A.Tapped.own B.Tapped.own s n t };
 
     ghost drawn = { Prim.search rules };
 

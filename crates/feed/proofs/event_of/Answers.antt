@@ -8,5 +8,5 @@ use Rattle.feed.proofs.event_of.Goals as goal
 pub returns : goal.returns
 returns c =
     let bytes = c.args.bytes.now in
-    let e = c.by-letter.ensures ∙ ap lettered (taken_apart bytes (omega arith)) in
-    record { value = e; layout = read_layout bytes c.requires (λ k. (c.type-inv.bytes k).fits) c.by-letter.result e }
+    let e = c.by_letter.ensures ∙ ap lettered (taken_apart bytes (omega arith)) in
+    record { value = e; layout = read_layout bytes c.requires (λ k. (c.type_inv.bytes k).fits) c.by_letter.result e }

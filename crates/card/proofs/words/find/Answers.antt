@@ -9,7 +9,7 @@ returns-then-eq c =
     let k = c.loop-k.k in
     let ws = c.args.words.now in
     let name = c.args.name.now in
-    let e = place_more ws name c.as-slice.result.now k c.eq.result (omega arith) c.as-slice.ensures c.eq.ensures in
+    let e = place_more ws name c.as_slice.result.now k c.eq.result (omega arith) c.as_slice.ensures c.eq.ensures in
     record {
       value = sym (e ∙ ap (λ t. cond t (Some k) (place_in (drop (k + 1) ws) (k + 1) name)) c.if-eq.true) ∙ c.loop-k.invariant;
       below = omega arith;
@@ -20,7 +20,7 @@ loop-k-preserved c =
     let k = c.loop-k.k in
     let ws = c.args.words.now in
     let name = c.args.name.now in
-    let e = place_more ws name c.as-slice.result.now k c.eq.result (omega arith) c.as-slice.ensures c.eq.ensures in
+    let e = place_more ws name c.as_slice.result.now k c.eq.result (omega arith) c.as_slice.ensures c.eq.ensures in
     sym (e ∙ ap (λ t. cond t (Some k) (place_in (drop (k + 1) ws) (k + 1) name)) c.if-eq.false) ∙ c.loop-k.invariant
 
 pub returns : goal.returns

@@ -8,7 +8,7 @@ use Rattle.figures.proofs.curve.read.Goals as goal
 pub returns-then-z-next : goal.returns-then-z-next
 returns-then-z-next c =
     let here = along_here c.args.knots.now c.loop-knot.knot-index c.args.nominal c.args.content c.loop-knot.last c.loop-knot.value c.place-next.result c.loop-knot-test.true c.place-next.ensures c.if-z-next.true in
-    record { value = c.on-piece.ensures.value ∙ sym (c.loop-knot.invariant.0 ∙ here); part = c.on-piece.ensures.part }
+    record { value = c.on_piece.ensures.value ∙ sym (c.loop-knot.invariant.0 ∙ here); part = c.on_piece.ensures.part }
 
 pub loop-knot-preserved : goal.loop-knot-preserved
 loop-knot-preserved c =

@@ -2,11 +2,11 @@
 use Rattle.std.proofs.Common.{ℕ, ◌*◌, ◌≤◌, mul-le-mul, div-le_self, arith}
 use Rattle.figures.proofs.root.guess.Goals as goal
 
-pub nonzero-div-square : goal.nonzero-div-square
-nonzero-div-square c = mul-le-mul {n₁ = 1} {m₁ = 1} c.loop.invariant.0 c.loop.invariant.0
+pub nonzero_div-square : goal.nonzero_div-square
+nonzero_div-square c = mul-le-mul {n₁ = 1} {m₁ = 1} c.loop.invariant.0 c.loop.invariant.0
 
-pub overflow-add-c : goal.overflow-add-c
-overflow-add-c c =
+pub overflow_add-c : goal.overflow_add-c
+overflow_add-c c =
     let y : ℕ = c.args.y in
     let fits : y ≤ 0xffff_ffff = omega arith in
     let square : y * y ≤ 0xffff_ffff * 0xffff_ffff = mul-le-mul fits fits in

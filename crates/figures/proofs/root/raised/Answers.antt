@@ -7,11 +7,11 @@ use Rattle.figures.proofs.root.raised.Goals as goal
 small : (s c : ℕ) → s < 2 ^ 64 → cube c ≤ s → c < 2 ^ 22
 small s c h fits = cube_lt c (2 ^ 22) (omega arith)
 
-pub overflow-add-c : goal.overflow-add-c
-overflow-add-c c = let l = small c.args.square c.loop-c.c (omega arith) c.loop-c.invariant in omega arith
+pub overflow_add-c : goal.overflow_add-c
+overflow_add-c c = let l = small c.args.square c.loop-c.c (omega arith) c.loop-c.invariant in omega arith
 
-pub overflow-add-c-in-loop-c : goal.overflow-add-c-in-loop-c
-overflow-add-c-in-loop-c c = let l = small c.args.square c.loop-c.c (omega arith) c.loop-c.invariant in omega arith
+pub overflow_add-c-in-loop-c : goal.overflow_add-c-in-loop-c
+overflow_add-c-in-loop-c c = let l = small c.args.square c.loop-c.c (omega arith) c.loop-c.invariant in omega arith
 
 pub loop-c-smaller : goal.loop-c-smaller
 loop-c-smaller c = let l = small c.args.square c.loop-c.c (omega arith) c.loop-c.invariant in omega arith

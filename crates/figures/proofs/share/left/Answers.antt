@@ -3,8 +3,8 @@ use Rattle.std.proofs.Common.{◌*◌, sym, arith}
 use Rattle.figures.proofs.Parts.{part_le, div_half}
 use Rattle.figures.proofs.share.left.Goals as goal
 
-pub overflow-cast-result-3 : goal.overflow-cast-result-3
-overflow-cast-result-3 c = let e = part_le c.args.x c.args.x c.args.b c.requires.within in omega arith
+pub overflow_cast-result-3 : goal.overflow_cast-result-3
+overflow_cast-result-3 c = let e = part_le c.args.x c.args.x c.args.b c.requires.within in omega arith
 
 pub returns : goal.returns
 returns c =

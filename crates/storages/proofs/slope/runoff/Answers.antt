@@ -11,8 +11,8 @@ small y c h fits =
     let square : y * y ≤ 100000000 * 100000000 = mul-le-mul h h in
     cube_lt c 215444 (omega arith)
 
-pub overflow-mul-result-2 : goal.overflow-mul-result-2
-overflow-mul-result-2 c =
+pub overflow_mul-result-2 : goal.overflow_mul-result-2
+overflow_mul-result-2 c =
     let rate : ℕ = c.args.rate in
     let full : ℕ = c.args.full in
     let root : ℕ = c.root.result in
