@@ -15,5 +15,5 @@ behind ws front e =
 pub returns : goal.returns
 returns c =
     let ws = c.args.weights.now in
-    let e = behind ws c.copy-from-slice.new.self c.copy-from-slice.ensures.after in
+    let e = behind ws c.copy_from_slice.new.self c.copy_from_slice.ensures.after in
     record { weights = e; total = ap sum e ∙ padded_total ws }

@@ -12,8 +12,8 @@ use Rattle.delay.proofs.Totals.{added_total}
 use Rattle.delay.proofs.Writes.{written_below, untouched_above}
 use Rattle.delay.proofs.hours.spread.Goals as goal
 
-pub overflow-add-after : goal.overflow-add-after
-overflow-add-after c =
+pub overflow_add-after : goal.overflow_add-after
+overflow_add-after c =
     let more = first_more c.args.weights.now c.loop-j.j (omega arith) in
     let all = first_le c.args.weights.now (c.loop-j.j + 1) in
     omega arith
@@ -24,8 +24,8 @@ portion-requires c =
     let all = first_le c.args.weights.now (c.loop-j.j + 1) in
     record { inflow = omega arith; ordered = omega arith; weight = omega arith }
 
-pub overflow-add-full : goal.overflow-add-full
-overflow-add-full c =
+pub overflow_add-full : goal.overflow_add-full
+overflow_add-full c =
     let v : ℕ = c.args.inflow in
     let j : ℕ = c.loop-j.j in
     let after : ℕ = c.loop-j.before + get_or c.args.weights.now j 0 in

@@ -3,4 +3,4 @@ use Rattle.land.proofs.Hours.{laws}
 use Rattle.land.proofs.segment.Segment.new.Goals as goal
 
 pub returns : goal.returns
-returns g c = record { made = c.dry-land.ensures; laws = laws }
+returns g c = record { made = c.dry_land.ensures; laws = laws }
