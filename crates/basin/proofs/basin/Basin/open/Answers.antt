@@ -6,8 +6,8 @@ use Rattle.basin.specs.Basins.{view}
 use Rattle.basin.proofs.Runs.{law}
 use Rattle.basin.proofs.basin.Basin.open.Goals as goal
 
-pub overflow-add-opening : goal.overflow-add-opening
-overflow-add-opening g c =
+pub overflow_add-opening : goal.overflow_add-opening
+overflow_add-opening g c =
     let a = volume_most (g.B.Bank.tracts c.args.bank) (g.met.B.Bank.bounded c.args.bank c.requires.bank) in
     let b = g.met.C.Storage.within c.args.channel c.requires.channel in
     let l = g.met.C.Storage.bounded c.args.channel c.requires.channel in

@@ -20,26 +20,26 @@ moved g c = rained_volume (g.B.Bank.tracts c.args.self.now.bank) c.args.segment 
 fall_is : (g : given.Over) (c : goal.In-Ok g) → c.args.depth * c.args.area ≡ c.args.depth * (at (g.B.Bank.tracts c.args.self.now.bank) c.args.segment).area
 fall_is g c = ap (λ n. c.args.depth * n) c.requires.area
 
-pub overflow-add-self : goal.overflow-add-self
-overflow-add-self g c =
+pub overflow_add-self : goal.overflow_add-self
+overflow_add-self g c =
     let m = moved g c in
     let f = fall_is g c in
     let a = c.requires.limits in
     let b = g.met.C.Storage.bounded c.args.self.now.channel c.requires.sound.channel in
     omega (arith, a.1.1.1.1.0)
 
-pub overflow-add-self-in-Ok-2 : goal.overflow-add-self-in-Ok-2
-overflow-add-self-in-Ok-2 g c =
-    let m = moved g (goal.at.overflow-add-self-in-Ok-2 g c).In-Ok in
-    let f = fall_is g (goal.at.overflow-add-self-in-Ok-2 g c).In-Ok in
+pub overflow_add-self-in-Ok-2 : goal.overflow_add-self-in-Ok-2
+overflow_add-self-in-Ok-2 g c =
+    let m = moved g (goal.at.overflow_add-self-in-Ok-2 g c).In-Ok in
+    let f = fall_is g (goal.at.overflow_add-self-in-Ok-2 g c).In-Ok in
     let a = c.requires.limits in
     let b = g.met.C.Storage.bounded c.args.self.now.channel c.requires.sound.channel in
     omega (arith, a.1.1.1.1.0, c.requires.sound.even, c.requires.sound.opening, c.requires.sound.page)
 
-pub overflow-add-self-in-Ok-3 : goal.overflow-add-self-in-Ok-3
-overflow-add-self-in-Ok-3 g c =
-    let m = moved g (goal.at.overflow-add-self-in-Ok-3 g c).In-Ok in
-    let f = fall_is g (goal.at.overflow-add-self-in-Ok-3 g c).In-Ok in
+pub overflow_add-self-in-Ok-3 : goal.overflow_add-self-in-Ok-3
+overflow_add-self-in-Ok-3 g c =
+    let m = moved g (goal.at.overflow_add-self-in-Ok-3 g c).In-Ok in
+    let f = fall_is g (goal.at.overflow_add-self-in-Ok-3 g c).In-Ok in
     let a = c.requires.limits in
     let b = g.met.C.Storage.bounded c.args.self.now.channel c.requires.sound.channel in
     omega (arith, a.1.1.1.1.0, c.requires.sound.even, c.requires.sound.opening, c.requires.sound.page)
