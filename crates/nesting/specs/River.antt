@@ -21,17 +21,17 @@ use Rattle.delay.specs.contracts.delay.DelayStorage.TheImpl as delay
 use Rattle.delay.specs.contracts.delay.DelayTapped.TheImpl as delay_tap
 use Rattle.delay.specs.declared.delay.Delay.{Delay}
 
-abbrev pub RiverOf : Type 0
-RiverOf = Leak (Chain (Chain Recession Recession) Delay)
-
 abbrev pub reaches : storage.Ghosts (Chain Recession Recession)
 reaches = chaining recession.ghosts recession.ghosts
+
+abbrev pub RiverOf : Type 0
+RiverOf = Leak (Chain (Chain Recession Recession) Delay) (chaining reaches delay.ghosts)
 
 abbrev pub river_means : storage.Ghosts RiverOf
 river_means = leaking (chaining reaches delay.ghosts)
 
 abbrev pub river_tap : tapped.Ghosts RiverOf
-river_tap = leak_tap (chain_tap reaches delay.ghosts (chain_tap recession.ghosts recession.ghosts recession_tap.ghosts recession_tap.ghosts) delay_tap.ghosts)
+river_tap = leak_tap (chaining reaches delay.ghosts) (chain_tap reaches delay.ghosts (chain_tap recession.ghosts recession.ghosts recession_tap.ghosts recession_tap.ghosts) delay_tap.ghosts)
 
 -- two rates, weights, a loss, and one ceiling for all
 abbrev pub river_limits : (upper lower : ℕ) (weights : List ℕ) (loss ceiling : ℕ) → List Limit

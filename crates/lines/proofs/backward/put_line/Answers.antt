@@ -6,6 +6,6 @@ use Rattle.lines.proofs.backward.put_line.Goals as goal
 
 pub returns : goal.returns
 returns c =
-    let p = c.put-byte-at in
+    let p = c.put_byte-at in
     line_printed p.new.room (c.args.letter ∷ entered c.args.figures.now) c.args.out.now c.copy.new.out p.result p.array_long
-    (p.ensures.bytes ∙ ap (λ (x : List ℕ). c.args.letter ∷ x) c.put-figures-start.ensures.bytes) c.copy.ensures
+    (p.ensures.bytes ∙ ap (λ (x : List ℕ). c.args.letter ∷ x) c.put_figures-start.ensures.bytes) c.copy.ensures
