@@ -6,7 +6,7 @@ use Rattle.posting.proofs.opening.open.Goals as goal
 
 pub returns : goal.returns
 returns c = record {
-  refusal = c.in-ok-card.ensures.refusal;
-  opened = record { card = c.in-ok-card.card; figures = c.in-ok-card.ensures.figures; opened = c.basin-of.ensures };
-  law = feed_law (view plots channels c.basin-of.result) c.basin-of.ensures.new;
+  refusal = c.in_ok-card.ensures.refusal;
+  opened = record { card = c.in_ok-card.card; figures = c.in_ok-card.ensures.figures; opened = c.basin_of.ensures };
+  law = feed_law (view plots channels c.basin_of.result) c.basin_of.ensures.new;
 }

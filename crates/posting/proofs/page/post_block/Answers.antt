@@ -13,10 +13,10 @@ loop-i-init g c = (c.requires, omega arith, ([], none, refl, refl))
 pub loop-i-preserved : goal.loop-i-preserved
 loop-i-preserved g c =
     let i = c.loop-i.invariant in
-    let p = c.post-at-at.ensures.put in
+    let p = c.post_at-at.ensures.put in
     let at = c.loop-i.at in
-    let n = c.post-at-at.result in (
-      c.post-at-at.ensures.sound,
+    let n = c.post_at-at.result in (
+      c.post_at-at.ensures.sound,
       omega (arith, i.1, p.fits),
       (
         p.told ∷ i.2.0,
