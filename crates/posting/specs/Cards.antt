@@ -25,7 +25,7 @@ use Rattle.land.specs.declared.segment.Segment.{Segment}
 abbrev pub channels : storage.Ghosts Recession
 channels = recession.ghosts
 
-abbrev pub leaks : storage.Ghosts (Leak Recession)
+abbrev pub leaks : storage.Ghosts (Leak Recession channels)
 leaks = record {
   sound = λ s. channels.sound s.below;
   holds = λ s. channels.holds s.below;
@@ -34,7 +34,7 @@ leaks = record {
 }
 
 abbrev pub Land : Type 0
-Land = Segment Slope Recession (Leak Recession)
+Land = Segment Slope Recession (Leak Recession channels)
 
 abbrev pub lands : storage.Ghosts Land
 lands = record {
