@@ -1,7 +1,7 @@
 -- What a rain does to a row of segments: the water it moves, and what it leaves alone.
 use Rattle.std.proofs.Common.{◌≡◌, ℕ, zero, suc, ◌+◌, ◌*◌, ◌<◌, ◌≤◌, List, [], ◌∷◌, length, get_or, set, sym, refl, ap, ◌∙◌, mul_comm, mul-add, arith, length-set}
 use Rattle.std.proofs.lemmas.Nat.{mul-le}
-use Rattle.storages.specs.Meaning.{Out, Stepped}
+use Rattle.storages.specs.Meaning.{Out}
 use Rattle.banks.specs.Rows.{Tract, tract, at, volume, areas, Fit, Bounded, Rained}
 
 -- the water on one segment

@@ -4,7 +4,7 @@
 --   entry_with met card i   both
 --   before card k i        a record before record i has the word at place k
 --   entry_at card i         record i
-use Rattle.std.specs.Prelude.{ℕ, zero, suc, ◌+◌, ◌*◌, Bool, true, false, cond, ◌||◌, List, Some, None, Ok, Err, Option, Result, ◌==◌}
+use Rattle.std.specs.Prelude.{ℕ, zero, suc, ◌+◌, ◌*◌, Bool, false, cond, ◌||◌, List, Some, None, Ok, Err, Option, Result, ◌==◌}
 use Rattle.refusals.specs.declared.Refusal.{Refusal}
 use Rattle.refusals.specs.declared.Refusal.TheVariants.{UnknownName, RepeatedName, NotANumber, OutOfRange}
 use Rattle.card.specs.Figures.{figure_of}

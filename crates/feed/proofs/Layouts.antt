@@ -1,5 +1,5 @@
 -- A record that is read is laid out as its event is.
-use Rattle.std.proofs.Common.{◌≡◌, ℕ, zero, suc, ◌+◌, ◌*◌, ◌/◌, ◌%◌, ◌<◌, ◌≤◌, cond, eqb, List, [], ◌∷◌, ◌++◌, map, length, get_or, take, drop, replicate, IfOk, Ok, Err, Result, sym, refl, ap, ◌∙◌, ⊎_elim, arith, lit<, length-drop, length-take}
+use Rattle.std.proofs.Common.{◌≡◌, ℕ, zero, suc, ◌+◌, ◌*◌, ◌/◌, ◌%◌, ◌<◌, ◌≤◌, cond, eqb, List, [], ◌∷◌, ◌++◌, map, length, get_or, drop, replicate, IfOk, Ok, Err, Result, sym, refl, ap, ◌∙◌, ⊎_elim, arith, lit<, length-drop, length-take}
 use Rattle.std.specs.List.{range_with_len}
 use Rattle.std.specs.Result.{result_and}
 use Rattle.std.proofs.lemmas.List.FromFn.{fill_by_all}

@@ -1,5 +1,5 @@
 -- The two curves never pass the whole.
-use Rattle.std.proofs.Common.{◌≡◌, ℕ, ◌+◌, ◌-◌, ◌*◌, ◌/◌, ◌<◌, ◌≤◌, Bool, true, false, cond, ltb, leb, List, [], ◌∷◌, refl, arith, ltb-true, leb-true}
+use Rattle.std.proofs.Common.{◌≡◌, ℕ, ◌-◌, ◌<◌, ◌≤◌, Bool, true, false, cond, ltb, leb, List, [], ◌∷◌, refl, arith, ltb-true, leb-true}
 use Rattle.figures.specs.Curve.{between, along, place, upper_part, ground_part, upper_knots, ground_knots}
 use Rattle.figures.specs.declared.curve.Knot.{Knot}
 use Rattle.figures.proofs.Parts.{part_le}

@@ -5,6 +5,7 @@ ghost use Rattle.std.specs.Prelude.{ℕ};
 ghost use Rattle.basin.specs.Basins.{Sound};
 
 use crate::tally::{Granted, Tally};
+use anyhow::anyhow;
 use banks::{Bank, Pair, Plot};
 use basin::{Basin, Parcel};
 use refusals::Refusal;
@@ -56,7 +57,7 @@ fn rain<B: Bank, C: Tapped>(
             println!(rt; "  ran off {runoff}, evaporated {evaporated}, lost deep {deep}")?;
             let Some(more) = tally.add(Granted::Rain(area, depth, (runoff, evaporated, deep)))
             else {
-                return Err(TOO_LARGE.into());
+                return Err(anyhow!(TOO_LARGE));
             };
             *tally = more;
             Ok(())
@@ -77,7 +78,7 @@ fn turn<B: Bank, C: Tapped>(
     let (streamflow, deep) = basin.turn();
     println!(rt; "turn: {streamflow} flowed out, {deep} went deep")?;
     let Some(more) = tally.add(Granted::Turn(streamflow, deep)) else {
-        return Err(TOO_LARGE.into());
+        return Err(anyhow!(TOO_LARGE));
     };
     *tally = more;
     Ok(())
@@ -126,7 +127,7 @@ fn draw<B: Bank, C: Tapped>(
 {
     println!(rt; "the pump asks for {amount}")?;
     let Some(more) = tally.add(Granted::Draw(amount)) else {
-        return Err(TOO_LARGE.into());
+        return Err(anyhow!(TOO_LARGE));
     };
     match basin.draw(amount) {
         Ok(parcel) => {
@@ -166,7 +167,7 @@ fn give_back<B: Bank, C: Tapped>(
         }
     }
     let Some(more) = tally.add(Granted::Pour(amount)) else {
-        return Err(TOO_LARGE.into());
+        return Err(anyhow!(TOO_LARGE));
     };
     *tally = more;
     Ok(())
@@ -228,7 +229,7 @@ fn close<B: Bank, C: Tapped>(
     beside(rt, "drawn", book.sums.drawn, tally.since.drawn)?;
     beside(rt, "poured", book.sums.poured, tally.since.poured)?;
     let Some(next) = tally.close() else {
-        return Err(TOO_LARGE.into());
+        return Err(anyhow!(TOO_LARGE));
     };
     *tally = next;
     beside(rt, "held", book.held, tally.since.opening)

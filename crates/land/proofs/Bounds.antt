@@ -1,5 +1,5 @@
 -- How large the products of the hour can grow.
-use Rattle.std.proofs.Common.{◌≡◌, ℕ, ◌+◌, ◌-◌, ◌*◌, ◌/◌, ◌<◌, ◌≤◌, refl, mul-le-mul_right, arith}
+use Rattle.std.proofs.Common.{◌≡◌, ℕ, ◌-◌, ◌*◌, ◌/◌, ◌≤◌, refl, mul-le-mul_right, arith}
 use Rattle.std.proofs.lemmas.Nat.{mul-le, le-div}
 use Rattle.figures.specs.Power.{power}
 use Rattle.figures.proofs.Parts.{div_falls}

@@ -1,5 +1,5 @@
 -- The laws of the hour, part after part.
-use Rattle.std.proofs.Common.{◌≡◌, ℕ, ◌+◌, ◌-◌, ◌*◌, ◌/◌, ◌≤◌, min, List, [], ◌∷◌, sym, refl, ap, ◌∙◌, mul-le-mul_right, arith}
+use Rattle.std.proofs.Common.{◌≡◌, ℕ, ◌+◌, ◌-◌, ◌≤◌, min, refl, ap, mul-le-mul_right, arith}
 use native.Mathlib.Nat.{div-le_of_le-mul}
 use Rattle.figures.specs.Share.{share}
 use Rattle.figures.specs.Power.{power}
@@ -12,9 +12,8 @@ use Rattle.land.specs.declared.water.Surface.{Surface}
 use Rattle.land.specs.declared.water.Division.{Division}
 use Rattle.land.specs.declared.water.Seepage.{Seepage}
 use Rattle.land.specs.declared.water.Drying.{Drying}
-use Rattle.land.specs.declared.water.Flows.{Flows}
-use Rattle.land.specs.Hour.{Hour, parts_of, caught_of, surface_of, wetness_of, exponent_of, capacity_of, reach_of, division_of, kept_of, percolation_of, seepage_of, third_of, drying_of, opportunity_of, still, sent}
-use Rattle.land.specs.Laws.{HourLaw, HourLaws}
+use Rattle.land.specs.Hour.{parts_of, surface_of, wetness_of, exponent_of, capacity_of, reach_of, division_of, kept_of, percolation_of, seepage_of, third_of, drying_of, opportunity_of, still}
+use Rattle.land.specs.Laws.{HourLaws}
 use Rattle.land.proofs.Bounds.{power_32, soaks_reaches}
 use Rattle.figures.proofs.Heights.{upper_most, ground_most}
 

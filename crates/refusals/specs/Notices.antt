@@ -1,5 +1,4 @@
 -- The number, layer and place of each refusal.
-use Rattle.std.specs.Prelude.{ℕ}
 use Rattle.refusals.specs.declared.Notice.{Notice}
 use Rattle.refusals.specs.declared.Refusal.{Refusal}
 use Rattle.refusals.specs.declared.Refusal.TheVariants.{CardLength, UnknownName, RepeatedName, NotANumber, OutOfRange, StorageFigure, JoinedContents, PlotFigure, TooManySegments, OpeningAboveCeiling, RecordLength, UnknownLetter, NotZero, NoSuchSegment, RainAboveLimit, DemandAboveLimit, StorageFull, BasinFull, BookFull, DrawAmount, EmptyParcel, ShortBuffer}

@@ -3,7 +3,7 @@
 --   top          the greatest ceiling
 --   Out          the answer of a granted step: release, evaporated, deep loss
 --   gone o       all that left
-use Rattle.std.specs.Prelude.{◌≡◌, List, [], ◌∷◌, ℕ, ◌+◌, ◌-◌, ◌*◌, ◌/◌, ◌≤◌, ◌<◌, min}
+use Rattle.std.specs.Prelude.{◌≡◌, List, [], ◌∷◌, ℕ, ◌+◌, ◌-◌, ◌*◌, ◌/◌, ◌≤◌, min}
 use Rattle.refusals.specs.Limits.{Limit, limit}
 use Rattle.refusals.specs.declared.Refusal.TheVariants.{StorageFigure, StorageFull, DrawAmount}
 

@@ -1,6 +1,5 @@
 -- The products fit, and the second capacity is at least the first.
-use Rattle.std.proofs.Common.{◌≡◌, ◌≤◌, arith}
-use Rattle.figures.specs.Power.{power}
+use Rattle.std.proofs.Common.{◌≤◌, arith}
 use Rattle.land.proofs.Bounds.{power_32, ratio_product, reaches_product, soaks_reaches}
 use Rattle.land.proofs.division.capacities.Goals as goal
 

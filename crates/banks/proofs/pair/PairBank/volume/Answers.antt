@@ -1,5 +1,5 @@
 -- The water on a pair is that on its two banks.
-use Rattle.std.proofs.Common.{sym, ◌∙◌, arith}
+use Rattle.std.proofs.Common.{arith}
 use Rattle.banks.proofs.Rows.{volume_most}
 use Rattle.banks.specs.Joined.{volume_joined}
 use Rattle.banks.proofs.pair.PairBank.volume.Goals as goal
