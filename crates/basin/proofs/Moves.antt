@@ -1,10 +1,10 @@
 -- What a call leaves held, and what it leaves alone, seen from outside.
-use Rattle.std.proofs.Common.{◌≡◌, ℕ, ◌+◌, ◌*◌, sym, refl, ap, ◌∙◌, arith}
+use Rattle.std.proofs.Common.{◌≡◌, ℕ, ◌+◌, ◌*◌, refl, ap, arith}
 use Rattle.storages.specs.Meaning.{Out}
 use Rattle.banks.specs.Rows.{at, volume}
 use Rattle.banks.proofs.Rows.{rained_volume}
 use Rattle.basin.specs.Law.{View, held}
-use Rattle.basin.specs.Calls.{Rains, Turns, Draws, Pours, Closes}
+use Rattle.basin.specs.Calls.{Rains, Turns, Draws, Pours}
 use Rattle.basin.specs.declared.parcel.Parcel.{Parcel}
 
 -- a rain brings depth times area, and takes what evaporates and what goes deep

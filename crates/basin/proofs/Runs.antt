@@ -1,12 +1,12 @@
 -- The law of the book: each happening keeps it.
-use Rattle.std.proofs.Common.{◌≡◌, ℕ, ◌+◌, ◌*◌, ◌<◌, ◌≤◌, ◌⊎◌, List, [], ◌∷◌, length, get_or, Ok, Err, sym, refl, ap, ◌∙◌, subst, inl, inr, ⊎_elim, mul-le-mul_right, arith}
+use Rattle.std.proofs.Common.{◌≡◌, ℕ, ◌+◌, ◌*◌, ◌<◌, ◌≤◌, List, [], ◌∷◌, length, get_or, Ok, Err, sym, refl, ap, ◌∙◌, subst, inl, inr, ⊎_elim, mul-le-mul_right, arith}
 use Rattle.refusals.specs.declared.Refusal.{Refusal}
 use Rattle.refusals.specs.Limits.{Passed}
 use Rattle.banks.specs.Rows.{at, areas, volume}
 use Rattle.banks.proofs.Rows.{area_at, rained_areas, rained_length}
 use Rattle.basin.specs.Lists.{All, total, One, here, there, Less, first, later}
 use Rattle.basin.specs.Law.{View, held, Entry, by_rain, by_turn, by_draw, by_pour, by_closing, by_question, Even, fresh, added, renewed, tally, Story, whole, since, New, State, nothing, joined, Goes, Hands, Happening, opening, call, booking, Happens, Ran, Balanced, acre, Over, Rules, Lawful, Law}
-use Rattle.basin.specs.Calls.{Called, rain_limits, draw_limits}
+use Rattle.basin.specs.Calls.{Called, rain_limits}
 use Rattle.basin.specs.declared.book.Sums.{Sums}
 use Rattle.basin.specs.declared.parcel.Parcel.{Parcel}
 use Rattle.basin.proofs.Moves.{rain_held, turn_held, draw_held, pour_held}

@@ -1,5 +1,5 @@
 -- What each call does to what can be seen of a basin, and when it is refused.
-use Rattle.std.specs.Prelude.{◌≡◌, ℕ, ◌+◌, ◌*◌, ◌≤◌, List, [], ◌∷◌, length, Ok, Err}
+use Rattle.std.specs.Prelude.{◌≡◌, ℕ, ◌+◌, ◌*◌, List, [], ◌∷◌, length, Ok}
 use Rattle.refusals.specs.Limits.{Limit, limit, Answers}
 use Rattle.refusals.specs.declared.Refusal.TheVariants.{OpeningAboveCeiling, NoSuchSegment, RainAboveLimit, DemandAboveLimit, StorageFull, BasinFull, BookFull, DrawAmount, EmptyParcel}
 use Rattle.storages.specs.Meaning.{Out}

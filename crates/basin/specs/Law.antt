@@ -7,7 +7,6 @@ use Rattle.storages.specs.Meaning.{top}
 use Rattle.banks.specs.Rows.{at, areas, Bounded}
 use Rattle.basin.specs.Lists.{All, total, One, Less}
 pub use Rattle.basin.specs.Views.{View, held, Entry, by_rain, by_turn, by_draw, by_pour, by_closing, by_question, sums_of, fresh, granted}
-use Rattle.basin.specs.declared.book.Book.{Book}
 use Rattle.basin.specs.declared.book.Sums.{Sums}
 use Rattle.basin.specs.declared.parcel.Parcel.{Parcel}
 

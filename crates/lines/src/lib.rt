@@ -89,8 +89,8 @@ mod tests {
             Line::Closing(Book { sums, held: MOST }).write(&mut out)?,
             170
         );
-        assert_eq!(rt; &out[0..23], b"C 18446744073709551615 ");
-        assert_eq!(rt; &out[148..171], b" 18446744073709551615\n.");
+        assert_eq!(rt; &out[0..23], b"C 18446744073709551615 ".as_slice());
+        assert_eq!(rt; &out[148..171], b" 18446744073709551615\n.".as_slice());
         Ok(())
     }
 
@@ -106,7 +106,7 @@ mod tests {
         assert_eq!(rt; line.write(&mut out[0..191]), Err(Refusal::ShortBuffer));
         assert!(rt; out[0] == b'.');
         assert_eq!(rt; line.write(&mut out)?, 17);
-        assert_eq!(rt; &out[0..18], b"R 0 10000 99 100\n.");
+        assert_eq!(rt; &out[0..18], b"R 0 10000 99 100\n.".as_slice());
         Ok(())
     }
 }

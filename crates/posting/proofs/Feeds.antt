@@ -1,20 +1,19 @@
 -- Feeds: records added, blocks joined, and the law of what is printed.
-use Rattle.std.proofs.Common.{◌≡◌, ℕ, ◌+◌, ◌-◌, ◌*◌, ◌<◌, ◌≤◌, List, [], ◌∷◌, ◌++◌, map, length, take, drop, Ok, Err, Result, sym, refl, ap, ◌∙◌, subst, append_assoc, add-zero, add_assoc, arith, length-append, length-drop, MatchResult}
+use Rattle.std.proofs.Common.{◌≡◌, ℕ, ◌+◌, ◌*◌, ◌≤◌, List, [], ◌∷◌, ◌++◌, map, length, take, drop, Ok, Err, Result, sym, refl, ap, ◌∙◌, subst, add-zero, add_assoc, arith, length-drop, MatchResult}
 use Rattle.std.proofs.lemmas.List.{take-append-le, drop-append-le, drop_at, drop-drop}
 use Rattle.refusals.specs.Notices.{notice_of}
 use Rattle.refusals.specs.declared.Refusal.{Refusal}
-use Rattle.basin.specs.Law.{View, Entry, by_rain, by_turn, by_closing, New, State, nothing, joined, call, Hands, Ran, Lawful}
-use Rattle.basin.specs.Lists.{One, here}
+use Rattle.basin.specs.Law.{View, Entry, by_rain, by_turn, by_closing, New, nothing, joined, call, Hands, Ran}
+use Rattle.basin.specs.Lists.{here}
 use Rattle.basin.specs.Calls.{Called}
 use Rattle.basin.proofs.Runs.{law}
 use Rattle.feed.specs.Reading.{reading}
 use Rattle.feed.specs.declared.Event.{Event}
 use Rattle.feed.specs.declared.Event.TheVariants as event
-use Rattle.lines.specs.Text.{text}
 use Rattle.lines.specs.declared.Line.{Line}
 use Rattle.lines.specs.declared.Line.TheVariants as line
 use Rattle.posting.specs.Posting.{Answered, Posted}
-use Rattle.posting.specs.Feeds.{record_at, Fed, none, more, texts, Tells, unread, made, alone, Kept, FeedLaw}
+use Rattle.posting.specs.Feeds.{record_at, Fed, none, more, Tells, unread, made, alone, FeedLaw}
 
 -- a record that a feed has whole is that of any longer feed
 record_left : (feed block : List ℕ) (i : ℕ) → 16 * i + 16 ≤ length feed → record_at (feed ++ block) i ≡ record_at feed i

@@ -1,5 +1,5 @@
 -- A line written into a part of a page, and the part of a block that is a record.
-use Rattle.std.proofs.Common.{◌≡◌, ℕ, ◌+◌, ◌-◌, ◌*◌, ◌<◌, ◌≤◌, min, List, [], ◌∷◌, ◌++◌, length, take, drop, Ok, Err, Result, sym, refl, ap, ◌∙◌, subst, ⊎_elim, append_assoc, arith, length-append, length-drop, length-take, MatchResult}
+use Rattle.std.proofs.Common.{◌≡◌, ℕ, ◌+◌, ◌-◌, ◌*◌, ◌≤◌, min, List, ◌++◌, length, take, drop, Ok, Err, Result, sym, ap, ◌∙◌, ⊎_elim, append_assoc, arith, length-append, length-drop, length-take, MatchResult}
 use borrow.Rule.Slice.PartMut.{put_mid}
 use Rattle.std.proofs.lemmas.List.{append-nil, drop_all, drop-drop, take_all, take_at, drop_at, take_rest}
 use Rattle.std.proofs.lemmas.Bool.{cases_lt}
@@ -8,7 +8,7 @@ use Rattle.refusals.specs.declared.Refusal.{Refusal}
 use Rattle.storages.specs.declared.meaning.Storage as storage
 use Rattle.storages.specs.declared.meaning.Tapped as tapped
 use Rattle.banks.specs.declared.meaning.Bank as bank
-use Rattle.basin.specs.Law.{Entry, by_rain, by_turn, by_closing}
+use Rattle.basin.specs.Law.{Entry}
 use Rattle.basin.specs.Calls.{Called}
 use Rattle.basin.specs.Basins.{view, Moved}
 use Rattle.basin.specs.declared.basin.Basin.{Basin}

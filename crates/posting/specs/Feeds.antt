@@ -9,7 +9,7 @@ use Rattle.refusals.specs.Limits.{Limit, limit}
 use Rattle.refusals.specs.Notices.{notice_of}
 use Rattle.refusals.specs.declared.Refusal.{Refusal}
 use Rattle.refusals.specs.declared.Refusal.TheVariants.{ShortBuffer}
-use Rattle.basin.specs.Law.{View, Entry, State, nothing, joined, Happening, call, Ran, Lawful}
+use Rattle.basin.specs.Law.{View, Entry, State, nothing, joined, call, Ran, Lawful}
 use Rattle.basin.specs.Calls.{Called}
 use Rattle.feed.specs.Reading.{reading}
 use Rattle.feed.specs.declared.Event.{Event}

@@ -11,7 +11,7 @@ use Rattle.storages.specs.Meaning.{Out}
 use Rattle.storages.specs.declared.meaning.Storage as storage
 use Rattle.storages.specs.declared.meaning.Tapped as tapped
 use Rattle.banks.specs.declared.meaning.Bank as bank
-use Rattle.basin.specs.Law.{View, Entry, by_rain, by_turn, by_draw, by_pour, by_closing, by_question}
+use Rattle.basin.specs.Law.{View, Entry, by_rain, by_turn, by_closing}
 use Rattle.basin.specs.Calls.{Called}
 use Rattle.basin.specs.Basins.{view, Moved}
 use Rattle.basin.specs.declared.basin.Basin.{Basin}

@@ -1,10 +1,10 @@
 -- The day, call by call.
-use Rattle.std.proofs.Common.{[], ◌∷◌, Ok, Err, refl, inl, inr, arith}
+use Rattle.std.proofs.Common.{Ok, Err, refl, inl, inr, arith}
 use Rattle.refusals.specs.declared.Refusal.TheVariants.{NoSuchSegment, RainAboveLimit, DemandAboveLimit, StorageFull, BasinFull, DrawAmount, EmptyParcel}
 use Rattle.basin.specs.Lists.{here, first}
-use Rattle.basin.specs.Law.{View, by_rain, by_turn, by_draw, by_pour, by_closing, by_question, sums_of, fresh, nothing, New}
+use Rattle.basin.specs.Law.{by_rain, by_turn, by_draw, by_pour, by_closing, by_question, sums_of, fresh, New}
 use Rattle.worked.specs.Runs.{small, great, parcel, the_day, Happened}
-use Rattle.worked.proofs.Steps.{At, begins, opens, on_last, on_former, books, one_fits}
+use Rattle.worked.proofs.Steps.{begins, opens, on_last, on_former, books, one_fits}
 use Rattle.worked.proofs.Years.{great_new}
 
 small_new : New (small 0 0 0 (fresh 0))

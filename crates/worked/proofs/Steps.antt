@@ -1,9 +1,9 @@
 -- Runs grow by one happening after the other.
 --   At hs ss ps b   the happenings hs lead to these stories, parcels and booked water
 use Rattle.std.proofs.Common.{ℕ, zero, suc, ◌+◌, ◌<◌, List, [], ◌∷◌, length, refl, arith}
-use Rattle.banks.specs.Rows.{Tract, tract, at, Fit}
+use Rattle.banks.specs.Rows.{tract, at, Fit}
 use Rattle.basin.specs.Lists.{here, there, first}
-use Rattle.basin.specs.Law.{View, Entry, Story, State, nothing, New, Hands, Happening, opening, call, booking, Ran}
+use Rattle.basin.specs.Law.{View, Entry, Story, nothing, New, Hands, Happening, opening, call, booking, Ran}
 use Rattle.basin.specs.Calls.{Called}
 use Rattle.basin.specs.declared.parcel.Parcel.{Parcel}
 

@@ -2,7 +2,7 @@
 use Rattle.std.proofs.Common.{◌≡◌, ℕ, zero, suc, ◌+◌, ◌*◌, ◌≤◌, List, [], ◌∷◌, Ok, Err, refl, inl, inr, arith}
 use Rattle.refusals.specs.declared.Refusal.TheVariants.{BookFull}
 use Rattle.basin.specs.Lists.{first}
-use Rattle.basin.specs.Law.{Entry, by_rain, by_turn, by_draw, by_pour, sums_of, fresh, nothing, New}
+use Rattle.basin.specs.Law.{Entry, by_rain, by_turn, by_draw, by_pour, sums_of, fresh, New}
 use Rattle.worked.specs.Runs.{great, parcel, rounds, the_year, Happened}
 use Rattle.worked.proofs.Steps.{At, story, begins, opens, on_last, one_fits}
 

@@ -1,5 +1,5 @@
 -- Without a demand nothing evaporates, and what comes in stays, is released or goes deep.
-use Rattle.std.proofs.Common.{◌≡◌, ℕ, subst, arith}
+use Rattle.std.proofs.Common.{◌≡◌, subst, arith}
 use Rattle.basin.proofs.basin.take.Goals as goal
 
 pub returns : goal.returns

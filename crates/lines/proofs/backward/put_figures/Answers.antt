@@ -1,5 +1,5 @@
 -- The loop over the figures, from the last to the first.
-use Rattle.std.proofs.Common.{◌-◌, ◌≤◌, length, get_or, drop, decimal, arith}
+use Rattle.std.proofs.Common.{◌-◌, get_or, drop, arith}
 use Rattle.lines.proofs.Places.{newline_last, figure_before, short}
 use Rattle.lines.proofs.backward.put_figures.Goals as goal
 

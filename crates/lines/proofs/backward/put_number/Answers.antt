@@ -1,5 +1,5 @@
 -- The loop over the digits, two at a time, and the one or two that are left.
-use Rattle.std.proofs.Common.{ℕ, ◌+◌, ◌^◌, ◌<◌, ◌≤◌, List, ◌∷◌, ◌++◌, length, drop, decimal, ap, ◌∙◌, arith}
+use Rattle.std.proofs.Common.{◌^◌, ◌<◌, ◌≤◌, length, drop, ap, ◌∙◌, arith}
 use Rattle.std.proofs.lemmas.Fmt.{decimal_digit}
 use Rattle.lines.proofs.Places.{length_pair, pair_before, decimal_two, digit_first, two_first}
 use Rattle.lines.proofs.backward.put_number.Goals as goal

@@ -1,5 +1,5 @@
 -- A record's line stands on the page from `at` on.
-use Rattle.std.proofs.Common.{◌≡◌, ◌-◌, ◌*◌, ◌≤◌, length, take, drop, subst, arith}
+use Rattle.std.proofs.Common.{◌-◌, ◌*◌, ◌≤◌, length, take, drop, subst, arith}
 use Rattle.basin.specs.Basins.{view}
 use Rattle.lines.specs.Text.{text}
 use Rattle.posting.specs.Posting.{Posted}

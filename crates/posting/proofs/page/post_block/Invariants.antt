@@ -1,5 +1,5 @@
 -- After i records their lines stand at the front of the page, and the rest of it is as it was.
-use Rattle.std.proofs.Common.{◌≡◌, ◌*◌, ◌≤◌, List, length, take, drop}
+use Rattle.std.proofs.Common.{◌≡◌, ◌*◌, ◌≤◌, List, take, drop}
 use Rattle.basin.specs.Basins.{view, Sound}
 use Rattle.lines.specs.declared.Line.{Line}
 use Rattle.posting.specs.Feeds.{Fed, texts}

@@ -1,5 +1,5 @@
 -- A basin is opened with what its bank and its channel hold, and the law holds of it.
-use Rattle.std.proofs.Common.{◌≡◌, refl, ap, ◌∙◌, arith}
+use Rattle.std.proofs.Common.{refl, ap, ◌∙◌, arith}
 use Rattle.banks.proofs.Rows.{volume_most}
 use Rattle.basin.specs.Law.{fresh, New}
 use Rattle.basin.specs.Basins.{view}

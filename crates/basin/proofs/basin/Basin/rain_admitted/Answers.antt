@@ -1,5 +1,5 @@
 -- A rain's water: what falls on the segment is what stays there, runs off, evaporates and goes deep.
-use Rattle.std.proofs.Common.{◌≡◌, ℕ, ◌+◌, ◌*◌, ◌≤◌, get_or, sym, refl, ap, ◌∙◌, arith}
+use Rattle.std.proofs.Common.{◌≡◌, ◌+◌, ◌*◌, get_or, sym, refl, ap, ◌∙◌, arith}
 use Rattle.banks.specs.Rows.{at, areas, volume, Rained}
 use Rattle.banks.proofs.Rows.{rained_volume, area_at}
 use Rattle.basin.specs.Law.{sums_of}
