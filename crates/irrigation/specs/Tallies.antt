@@ -1,5 +1,5 @@
 -- What a granted call adds to the clerk's tally: the same as to the tally of the law.
-use Rattle.std.specs.Prelude.{ℕ, [], ◌∷◌, Ok}
+use Rattle.std.specs.Prelude.{[], ◌∷◌, Ok}
 use Rattle.basin.specs.Law.{added, renewed, by_rain, by_turn, by_draw, by_pour, by_closing}
 use Rattle.basin.specs.declared.book.Sums.{Sums}
 use Rattle.irrigation.specs.declared.tally.Granted.{Granted}
