@@ -1,11 +1,11 @@
 #!/usr/bin/env bash
 # Times waterbook beside the second engine on two million records, best of several runs in turn, with peak memory and
 # instructions a record where /usr/bin/time and valgrind are at hand.
-#   tools/bench.sh [RUNS]      after 'rt check'; nine runs where no number is given
+#   tools/bench.sh [RUNS]      after 'rt run' in crates/waterbook; nine runs where no number is given
 set -euo pipefail
 cd "$(dirname "$0")/.."
 runs=${1:-9}
-waterbook=$PWD/target/bin/waterbook
+waterbook=$PWD/crates/waterbook/out/waterbook
 work=$(mktemp -d)
 trap 'rm -rf "$work"' EXIT
 rustc -O -o "$work/engine" tools/engine/engine.rs

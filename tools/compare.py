@@ -1,10 +1,10 @@
 #!/usr/bin/env python3
 """Holds the programs against the second engine, which was written from docs/ alone, and counts what was met.
 
-    tools/compare.py [CASES [SCRIPTS [SEED]]]      after 'rt check'; 300, 300 and 1 where no number is given
+    tools/compare.py [CASES [SCRIPTS [SEED]]]      after 'rt run' in crates/waterbook; 300, 0 and 1 where no number is given
 
-A case is a card and a feed for waterbook, a script is one for calls; both are generated (tools/engine/cases.rs, scripts.rs),
-and the second engine (engine.rs, script.rs) says what has to be printed. rustc builds it.
+A case is a card and a feed for waterbook; a script is one for a program `calls`, which is not written yet. Both are generated
+(tools/engine/cases.rs, scripts.rs), and the second engine (engine.rs, script.rs) says what has to be printed. rustc builds it.
 """
 import subprocess
 import sys
@@ -74,18 +74,20 @@ def scripts(place):
 
 
 def main():
-    cases, calls, seed = (int(n) for n in (sys.argv[1:] + ["300", "300", "1"][len(sys.argv) - 1:]))
+    cases, calls, seed = (int(n) for n in (sys.argv[1:] + ["300", "0", "1"][len(sys.argv) - 1:]))
     with tempfile.TemporaryDirectory() as place:
         folder = Path(place)
         engine, script = build(folder, "engine"), build(folder, "script")
         for program in (engine, script):
             subprocess.run([program, "--selftest"], check=True, stdout=subprocess.DEVNULL)
-        first = Comparison("cards and feeds", str(ROOT / "target" / "bin" / "waterbook"), engine)
+        first = Comparison("cards and feeds", str(ROOT / "crates" / "waterbook" / "out" / "waterbook"), engine)
         first.run(build(folder, "cases"), cases, seed, folder, cards_and_feeds)
-        second = Comparison("scripts of calls", str(ROOT / "target" / "bin" / "calls"), script)
-        second.run(build(folder, "scripts"), calls, seed, folder, scripts)
+        second = Comparison("scripts of calls", str(ROOT / "crates" / "calls" / "out" / "calls"), script)
+        if calls > 0:
+            second.run(build(folder, "scripts"), calls, seed, folder, scripts)
     first.tell()
-    second.tell()
+    if calls > 0:
+        second.tell()
     met = set(first.refusals) | set(second.refusals)
     print(f"{first.cases + second.cases} cases, {first.lines + second.lines} lines, {len(first.differing) + len(second.differing)} differ; {len(met)} of 22 refusals met")
     sys.exit(1 if first.differing or second.differing else 0)

@@ -1,10 +1,10 @@
 #!/usr/bin/env bash
 # Compares waterbook with the second engine on generated cases, and counts the refusals that were met.
-#   tools/compare.sh [CASES [SEED]]      after 'rt check'; 300 cases of seed 1 where none are given
+#   tools/compare.sh [CASES [SEED]]      after 'rt run' in crates/waterbook; 300 cases of seed 1 where none are given
 set -euo pipefail
 cd "$(dirname "$0")/.."
 count=${1:-300} seed=${2:-1}
-waterbook=$PWD/target/bin/waterbook
+waterbook=$PWD/crates/waterbook/out/waterbook
 work=$(mktemp -d)
 trap 'rm -rf "$work"' EXIT
 rustc -O -o "$work/engine" tools/engine/engine.rs

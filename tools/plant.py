@@ -1,11 +1,10 @@
 #!/usr/bin/env python3
 """Plants bugs, one at a time, to see whether the check notices.
 
-    tools/plant.py [WORD ...]     after 'rt check'; only the bugs whose name holds a WORD, where any is given
+    tools/plant.py [WORD ...]     after 'rt all check'; only the bugs whose name holds a WORD, where any is given
 
 tools/planted.txt has the bugs: edits of one line of src/, of which each turns the meaning of the code. An edit is made in a
-copy of the repository and its crate is checked; where it is still proved, whatever rests on the crate is checked, and the
-programs and tests are run. A bug is refused where a fact no longer holds, and its line says at which line of the code or of
+copy of the repository and its crate is checked; where it is still proved, so is every crate. A bug is refused where a fact no longer holds, and its line says at which line of the code or of
 a proof. One that survives shows a contract that is too weak, unless planted.txt says in a sentence why the edit means the
 same program.
 """
@@ -56,22 +55,22 @@ def first_error(log, crate):
 
 
 def try_bug(bug, folder):
-    """One of: refused (where), refused above (by which crate), seen (by a run), same, SURVIVED, BAD EDIT."""
+    """One of: refused (where), refused above (by which crate), same, SURVIVED, BAD EDIT."""
     path = folder / "crates" / bug.crate / bug.file
     text = path.read_text()
     path.write_text(edited(text, bug))
     try:
-        own = subprocess.run(["rt", "dev", bug.crate], cwd=folder, stdout=subprocess.PIPE, stderr=subprocess.STDOUT, text=True)
+        own = subprocess.run(["rt", "check"], cwd=folder / "crates" / bug.crate, stdout=subprocess.PIPE, stderr=subprocess.STDOUT, text=True)
         (folder / "logs" / f"{bug.crate}.{bug.name}").write_text(own.stdout)
         if own.returncode == 1 and "\nlogic=not-proved" in own.stdout:
             return "refused", first_error(own.stdout, bug.crate)
         if own.returncode != 0:
             return "BAD EDIT", own.stdout[-300:]
-        above = subprocess.run(["rt", "check"], cwd=folder, stdout=subprocess.PIPE, stderr=subprocess.STDOUT, text=True)
+        above = subprocess.run(["rt", "all", "check"], cwd=folder, stdout=subprocess.PIPE, stderr=subprocess.STDOUT, text=True)
         (folder / "logs" / f"{bug.crate}.{bug.name}.above").write_text(above.stdout)
         if above.returncode != 0:
-            proofs = re.findall(r"^rt: (\w+) NOT PROVED \(", above.stdout, re.M)
-            return ("refused above", f"in {proofs[0]}") if proofs else ("seen", "by a run")
+            failed = re.findall(r"^fn (\w+)::\S+: not proved", above.stdout, re.M)
+            return "refused above", f"in {failed[0]}" if failed else "somewhere"
         return ("same", bug.same) if bug.same else ("SURVIVED", "")
     finally:
         path.write_text(text)
@@ -87,8 +86,7 @@ def main():
             folder = Path(place, str(worker))
             (folder / "logs").mkdir(parents=True)
             shutil.copy(ROOT / "crates.txt", folder)
-            for part in ("crates", "target"):
-                shutil.copytree(ROOT / part, folder / part, symlinks=True)
+            shutil.copytree(ROOT / "crates", folder / "crates")
             folders.put(folder)
 
         def one(bug):
@@ -103,7 +101,7 @@ def main():
                 print(f"{bug.crate}/{bug.name}: {verdict} {said}".rstrip(), flush=True)
                 counts.setdefault(bug.crate, {}).setdefault(verdict, 0)
                 counts[bug.crate][verdict] += 1
-        kept = ROOT / "target" / "planted"
+        kept = Path(tempfile.gettempdir(), "planted")
         shutil.rmtree(kept, ignore_errors=True)
         kept.mkdir(parents=True)
         for worker in range(WORKERS):
@@ -115,7 +113,7 @@ def main():
     for verdicts in counts.values():
         for verdict, n in verdicts.items():
             total[verdict] = total.get(verdict, 0) + n
-    print(f"{len(chosen)} planted: " + ", ".join(f"{n} {verdict}" for verdict, n in total.items()) + "; the logs are in target/planted")
+    print(f"{len(chosen)} planted: " + ", ".join(f"{n} {verdict}" for verdict, n in total.items()) + f"; the logs are in {kept}")
     sys.exit(1 if "SURVIVED" in total or "BAD EDIT" in total else 0)
 
 
