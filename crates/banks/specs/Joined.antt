@@ -1,5 +1,5 @@
 -- Two rows as one: what holds of a segment of either holds of it in the joined row.
-use Rattle.std.specs.Prelude.{◌≡◌, ℕ, ◌+◌, ◌-◌, ◌<◌, ◌≤◌, List, [], ◌∷◌, ◌++◌, length, set, slice_set, refl}
+use Rattle.std.specs.Prelude.{◌≡◌, ℕ, ◌+◌, ◌-◌, ◌<◌, ◌≤◌, List, [], ◌∷◌, ◌++◌, length, slice_set, refl}
 use Rattle.std.proofs.Common.{sym, ap, subst, ◌∙◌, ⊎_elim, arith}
 use Rattle.std.proofs.lemmas.List.{get_or_append_left, get_or-append_right, get_or-append-add, length-append, set-append_left, set-append_right}
 use Rattle.std.proofs.lemmas.Bool.{cases_lt}
@@ -40,7 +40,7 @@ rained_left xs ys k i d o zs r = record {
   there = simp length-append (omega (arith, r.there));
   content = r.content;
   step = moved (at xs k) (at (xs ++ ys) k) (sym (left xs ys k r.there)) i d o r.content r.step;
-  after = ap (λ l. l ++ ys) r.after ∙ sym (set-append_left xs ys k _ r.there) ∙ ap (λ t. set (xs ++ ys) k (tract t.area r.content t.ceiling)) (sym (left xs ys k r.there));
+  after = ap (λ l. l ++ ys) r.after ∙ sym (set-append_left xs ys k _ r.there) ∙ ap (λ t. slice_set (xs ++ ys) k (tract t.area r.content t.ceiling)) (sym (left xs ys k r.there));
 }
 
 pub rained_right : (xs ys : List Tract) (j i d : ℕ) (o : Out) (zs : List Tract) → Rained ys j i d o zs → Rained (xs ++ ys) (length xs + j) i d o (xs ++ zs)
@@ -50,7 +50,7 @@ rained_right xs ys j i d o zs r =
       there = simp length-append (omega (arith, r.there));
       content = r.content;
       step = moved (at ys j) (at (xs ++ ys) (length xs + j)) (sym (right_at xs ys j)) i d o r.content r.step;
-      after = ap (λ l. xs ++ l) r.after ∙ ap (λ n. xs ++ slice_set ys n (tract (at ys j).area r.content (at ys j).ceiling)) (sym e) ∙ sym (set-append_right xs ys (length xs) (length xs + j) _ refl (omega arith)) ∙ ap (λ t. set (xs ++ ys) (length xs + j) (tract t.area r.content t.ceiling)) (sym (right_at xs ys j));
+      after = ap (λ l. xs ++ l) r.after ∙ ap (λ n. xs ++ slice_set ys n (tract (at ys j).area r.content (at ys j).ceiling)) (sym e) ∙ sym (set-append_right xs ys (length xs) (length xs + j) _ refl (omega arith)) ∙ ap (λ t. slice_set (xs ++ ys) (length xs + j) (tract t.area r.content t.ceiling)) (sym (right_at xs ys j));
     }
 
 -- figure by figure

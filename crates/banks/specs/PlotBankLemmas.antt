@@ -1,3 +1,4 @@
+-- A plot's rain is its storage's step: what the laws of a plot rest on.
 use Rattle.std.specs.Prelude.{◌≡◌, ℕ, zero, suc, ◌<◌, [], ◌∷◌, refl}
 use Rattle.std.proofs.Common.{ap, ◌∙◌, arith}
 use Rattle.storages.specs.Meaning.{Out, Stepped}

@@ -1,8 +1,8 @@
 -- What a bank means: a row of segments, and what a rain does to it.
---   Tract        a segment as a bank shows it: area, content, ceiling
---   at ts k      segment k of a row, all zeros where it is missing
---   volume ts    the water on a row: area times content, added up
---   areas ts     the areas of a row
+--   Tract       a segment as a bank shows it: area, content, ceiling
+--   at ts k     segment k of a row, all zeros where it is missing
+--   volume ts   the water on a row: area times content, added up
+--   areas ts    the areas of a row
 use Rattle.std.specs.Prelude.{◌≡◌, ℕ, ◌+◌, ◌*◌, ◌<◌, ◌≤◌, List, [], ◌∷◌, map, length, slice_index_or, slice_set}
 use Rattle.refusals.specs.Limits.{Limit, limit}
 use Rattle.refusals.specs.declared.Refusal.TheVariants.{NoSuchSegment, StorageFull}

@@ -64,6 +64,7 @@ impl<F: Bank, S: Bank> Bank for Pair<F, S> {
 
     ghost rains = { λ p k i d o q. PairRains F.Bank S.Bank p k i d o q };
 
+    // a pair's row is the two rows joined, and its rain is the rain of one of them
     ghost bounded = { λ b s. Joined.bounded (F.Bank.tracts b.first) (S.Bank.tracts b.second) (F.Bank.bounded b.first s.first) (S.Bank.bounded b.second s.second) s.few };
 
     ghost rained = { λ b c k p d o s r.

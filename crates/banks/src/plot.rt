@@ -38,6 +38,7 @@ impl<S: Storage> Bank for Plot<S> {
 
     ghost rains = { λ p k i d o q. (k ≡ 0) × S.Storage.steps p.storage i d o q.storage × (q.area ≡ p.area) };
 
+    // a plot's rain is its storage's step
     ghost bounded = { λ b s. record { some = omega arith; few = omega arith; each = only _ (record { some = s.some; area = s.area; content = S.Storage.within b.storage s.storage; ceiling = s.ceiling }) } };
 
     ghost rained = { λ b c k p d o s r. lone b.area (S.Storage.holds b.storage) (S.Storage.limit b.storage) c.area (S.Storage.holds c.storage) (S.Storage.limit c.storage) k p d o r.0 r.2 (S.Storage.stepped b.storage c.storage p d o s.storage r.1) };

@@ -1,8 +1,8 @@
 -- Words on lists that the law uses.
---   All P xs     P holds of every element
---   total f xs   f of every element, added up
---   One R xs ys  one element changes as R says, the others stay
---   Less y xs ys the element y goes, the others stay
+--   All P xs       P holds of every element
+--   total f xs     f of every element, added up
+--   One R xs ys    one element changes as R says, the others stay
+--   Less y xs ys   the element y goes, the others stay
 use Rattle.std.specs.Prelude.{ℕ, ◌+◌, List, [], ◌∷◌}
 
 abbrev pub All : {X : Type 0} → (X → Type 0) → List X → Type 0

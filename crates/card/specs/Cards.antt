@@ -1,11 +1,11 @@
 -- What a check answers: the figures of a good card, or the first rule that a bad one breaks.
---   Ranged ws k vs   the figures vs from place k on are within the ranges of the words ws
---   Holds vs c       the figures of c are vs, in the order of the words
---   Says card name v    a record of the card has this name, and its figure is v
---   Figures card c   c has the figures that the card says
+--   Ranged ws k vs         the figures vs from place k on are within the ranges of the words ws
+--   Holds vs c             the figures of c are vs, in the order of the words
+--   Says card name v       a record of the card has this name, and its figure is v
+--   Figures card c         c has the figures that the card says
 --   first_fault card i n   the first rule that one of the n records from i on breaks
---   records_fault card   the first rule that one of the fourteen records breaks
---   fault_of card     the first rule that a card breaks, its length before all else
+--   records_fault card     the first rule that one of the fourteen records breaks
+--   fault_of card          the first rule that a card breaks, its length before all else
 use Rattle.std.specs.Prelude.{◌≡◌, ℕ, zero, suc, ◌+◌, ◌<◌, ◌≤◌, cond, List, [], ◌∷◌, length, Some, None, Ok, Err, codes, Option, Result, ◌==◌, slice_index}
 use Rattle.refusals.specs.declared.Refusal.{Refusal}
 use Rattle.refusals.specs.declared.Refusal.TheVariants.{CardLength}

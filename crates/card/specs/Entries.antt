@@ -2,7 +2,7 @@
 --   word_with met card i    the place of record i's word; met says which words came before
 --   figure_under k card i   the figure of record i, under the word at place k
 --   entry_with met card i   both
---   before card k i        a record before record i has the word at place k
+--   before card k i         a record before record i has the word at place k
 --   entry_at card i         record i
 use Rattle.std.specs.Prelude.{ℕ, zero, suc, ◌+◌, ◌*◌, Bool, false, cond, ◌||◌, List, Some, None, Ok, Err, Option, Result, ◌==◌}
 use Rattle.refusals.specs.declared.Refusal.{Refusal}

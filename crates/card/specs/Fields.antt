@@ -1,9 +1,9 @@
 -- The fields of a card: where they stand, and what they say.
---   Part                 a name or a figure: its offset and its bytes
---   part f               what a field of the program is
+--   Part                  a name or a figure: its offset and its bytes
+--   part f                what a field of the program is
 --   name_field card i     the name of record i
 --   figure_field card i   the figure of record i
---   told p               what a part says: the place of its name among the words, or its figure
+--   told p                what a part says: the place of its name among the words, or its figure
 use Rattle.std.specs.Prelude.{ℕ, ◌+◌, ◌*◌, ◌<◌, List, take, drop, Result}
 use Rattle.std.specs.Option.{ok_or}
 use Rattle.refusals.specs.declared.Refusal.{Refusal}

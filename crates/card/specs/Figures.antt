@@ -1,5 +1,5 @@
 -- The figure of a record: blanks, and then at least one decimal digit.
---   unblanked cs      cs without the blanks before it
+--   unblanked cs       cs without the blanks before it
 --   number_from n cs   the number that n and then the digits cs write, if cs is digits alone
 --   some_digits cs     the number that the digits cs write, if they are at least one, and digits alone
 --   figure_of cs       the number of a figure, if it is one

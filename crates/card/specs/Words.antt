@@ -1,6 +1,6 @@
 -- The fourteen words of a card, each with the least and the most of its figure.
 --   words              the fourteen, in the order in which a checked card holds their figures
---   place_in ws k cs    the place of the name cs among the words ws, counted from k
+--   place_in ws k cs   the place of the name cs among the words ws, counted from k
 --   place cs           the place of the name cs among the fourteen, if it is one of them
 --   within w v         v is within the range of the word w
 --   ranged k v         v is within the range of the word at place k

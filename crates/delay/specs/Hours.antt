@@ -1,10 +1,10 @@
 -- The hours of a delay: water on its way, by the hour in which it comes.
---   longest           the most weights that a delay may have
---   delay_limits       what a delay may be made of
---   padded ws         the weights, and 0 for each hour that has none
---   added v ws hs     the hours with an inflow added
---   nearer hs         the hours once the soonest is gone
---   drained n hs      the hours after a draw
+--   longest         the most weights that a delay may have
+--   delay_limits    what a delay may be made of
+--   padded ws       the weights, and 0 for each hour that has none
+--   added v ws hs   the hours with an inflow added
+--   nearer hs       the hours once the soonest is gone
+--   drained n hs    the hours after a draw
 use Rattle.std.specs.Prelude.{ℕ, ◌+◌, ◌-◌, List, [], ◌∷◌, ◌++◌, map, length, drop, replicate, sum, slice_index}
 use Rattle.std.specs.List.{range_with_len}
 use Rattle.figures.specs.Portions.{first, portion}

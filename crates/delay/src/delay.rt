@@ -3,7 +3,7 @@ ghost use Rattle.std.specs.Prelude.{◌≡◌, ◌+◌, ◌≤◌, replicate, su
 ghost use Rattle.refusals.specs.Limits.{Answers};
 ghost use Rattle.storages.specs.Meaning.{gone, top, whole};
 ghost use Rattle.delay.specs.Hours.{longest, delay_limits, padded as padded_with, added, nearer, drained as drained_by};
-ghost use Rattle.std.proofs.Common.{rules, arith};
+ghost use Rattle.std.proofs.Common.{rules};
 
 use crate::hours::{LONGEST, advanced, drained, padded, spread, total};
 use refusals::Refusal;
@@ -49,11 +49,11 @@ impl Storage for Delay {
 
     ghost steps = { λ s i d o t. (o ≡ (slice_index (added i s.weights s.hours) 0, 0, 0)) × (t.hours ≡ nearer (added i s.weights s.hours)) × (t.content + gone o ≡ s.content + i) × (t.weights ≡ s.weights) × (t.ceiling ≡ s.ceiling) };
 
-    ghost within = { first_of (Prim.search rules, Prim.grind (arith, Self.row.coded.inj)) };
+    ghost within = { Prim.search rules };
 
-    ghost bounded = { first_of (Prim.search rules, Prim.grind (arith, Self.row.coded.inj)) };
+    ghost bounded = { Prim.search rules };
 
-    ghost stepped = { first_of (Prim.search rules, Prim.grind (arith, Self.row.coded.inj)) };
+    ghost stepped = { Prim.search rules };
 
     fn content(&self) -> u64 {
         self.content
@@ -78,7 +78,7 @@ impl Storage for Delay {
 impl Tapped for Delay {
     ghost draws = { λ s n t. (t.hours ≡ drained_by n s.hours) × (t.content + n ≡ s.content) × (t.weights ≡ s.weights) × (t.ceiling ≡ s.ceiling) };
 
-    ghost drawn = { first_of (Prim.search rules, Prim.grind (arith, Self.row.coded.inj)) };
+    ghost drawn = { Prim.search rules };
 
     fn draw(&mut self, amount: u64) -> Result<(), Refusal> {
         if amount > self.content {

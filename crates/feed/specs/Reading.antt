@@ -1,9 +1,9 @@
 -- What a feed record says: sixteen bytes, read as an event or refused.
---   word i bs      the four bytes from byte i on, the least first
---   part i n bs    the n bytes from byte i on
---   blank at bs    refuses the first byte that is not zero; the first of bs stands at `at`
---   record_of e     the record of an event, byte by byte
---   reading bs     the event of a record, or the first rule that it breaks
+--   word i bs     the four bytes from byte i on, the least first
+--   part i n bs   the n bytes from byte i on
+--   blank at bs   refuses the first byte that is not zero; the first of bs stands at `at`
+--   record_of e   the record of an event, byte by byte
+--   reading bs    the event of a record, or the first rule that it breaks
 use Rattle.std.specs.Prelude.{ℕ, ◌+◌, ◌*◌, ◌/◌, ◌%◌, cond, List, [], ◌∷◌, ◌++◌, length, take, drop, replicate, Ok, Err, Result, ◌==◌, slice_index}
 use Rattle.std.specs.Result.{result_and}
 use Rattle.refusals.specs.declared.Refusal.{Refusal}

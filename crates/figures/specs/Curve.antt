@@ -1,11 +1,11 @@
 -- Curves that are straight between knots and flat after the last.
---   place n k             where a knot stands for a nominal content n
---   between p v p' w z    the value at z on the straight piece from v at p to w at p'
---   along n z p v ks      the value at z, past a knot at p with value v, with the knots ks ahead
---   curve n z v ks        the value at z of the curve that begins with v at content 0
---   upper_part n z         the part of slope water that the upper zone keeps, in 1,048,576ths
---   ground_part n z        the part of infiltration and percolation that goes to groundwater, likewise
---   Apart, Through        the knots stand apart, and the curve goes through them
+--   place n k            where a knot stands for a nominal content n
+--   between p v p' w z   the value at z on the straight piece from v at p to w at p'
+--   along n z p v ks     the value at z, past a knot at p with value v, with the knots ks ahead
+--   curve n z v ks       the value at z of the curve that begins with v at content 0
+--   upper_part n z       the part of slope water that the upper zone keeps, in 1,048,576ths
+--   ground_part n z      the part of infiltration and percolation that goes to groundwater, likewise
+--   Apart, Through       the knots stand apart, and the curve goes through them
 use Rattle.std.specs.Prelude.{◌≡◌, ℕ, ◌+◌, ◌-◌, ◌*◌, ◌/◌, ◌<◌, ◌≤◌, cond, List, [], ◌∷◌, length, nat_le, nat_lt, slice_index_or}
 use Rattle.figures.specs.declared.curve.Knot.{Knot}
 

@@ -1,7 +1,7 @@
 -- What is taken of a supply where the capacity to take it rises evenly from 0 to b over the area.
 --   share_rule x b   the amount taken of x, by cases
---   share x b       the same, as what rests on it names it
---   Shared x b r    r is that amount, and the two laws that the land rests on
+--   share x b        the same, as what rests on it names it
+--   Shared x b r     r is that amount, and the two laws that the land rests on
 use Rattle.std.specs.Prelude.{◌≡◌, ℕ, ◌-◌, ◌*◌, ◌/◌, ◌≤◌, cond, ◌==◌, nat_le}
 
 -- nothing at capacity 0; x less x * x / (2 * b) up to b; half of b above it

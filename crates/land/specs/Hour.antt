@@ -5,7 +5,7 @@
 --   kept_of        what the upper zone keeps of slope water
 --   seepage_of     percolation, and the one division between groundwater and lower zone
 --   drying_of      evaporation, in its order
---   Hour          all of them, each reading what it should
+--   Hour           all of them, each reading what it should
 use Rattle.std.specs.Prelude.{◌≡◌, ℕ, ◌+◌, ◌-◌, ◌*◌, ◌/◌, min, cond, nat_le}
 use Rattle.figures.specs.Share.{share}
 use Rattle.figures.specs.Power.{power}

@@ -1,10 +1,10 @@
 -- The bytes of a line, and what a buffer holds once the line is written.
---   entered ns      each figure after a blank, and a newline at the end
---   letter l        the letter of a line
---   entries l       its figures, in their order
---   text l          its bytes
---   buffer_limits size   a buffer of this size holds at least 192 bytes
---   Printed line old n new    a line of n bytes stands at the front of a buffer, and the rest is as it was
+--   entered ns               each figure after a blank, and a newline at the end
+--   letter l                 the letter of a line
+--   entries l                its figures, in their order
+--   text l                   its bytes
+--   buffer_limits size       a buffer of this size holds at least 192 bytes
+--   Printed line old n new   a line of n bytes stands at the front of a buffer, and the rest is as it was
 use Rattle.std.specs.Prelude.{◌≡◌, ℕ, ◌≤◌, List, [], ◌∷◌, ◌++◌, length, drop, decimal}
 use Rattle.refusals.specs.Limits.{Limit, limit}
 use Rattle.refusals.specs.declared.Refusal.TheVariants.{ShortBuffer}

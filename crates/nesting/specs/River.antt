@@ -1,8 +1,8 @@
 -- A river: a leak over two reaches with a delay behind them.
 --   RiverOf        the type
---   river_means     what a river means as a storage, by what its parts mean
---   river_tap       how water is drawn from it, likewise
---   river_limits    what a river may be made of
+--   river_means    what a river means as a storage, by what its parts mean
+--   river_tap      how water is drawn from it, likewise
+--   river_limits   what a river may be made of
 --   NewRiver       a river that was just made
 use Rattle.std.specs.Prelude.{◌≡◌, ℕ, List, ◌++◌}
 use Rattle.refusals.specs.Limits.{Limit}

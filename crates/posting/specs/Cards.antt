@@ -1,8 +1,8 @@
 -- The basin that a card opens.
 --   lands, plots, channels   what the land, the plot and the channel of a card mean
---   Dry f s        the land of a card f as it is made
---   Opened f b     the basin of a card f as it is opened
---   OpenedBy card b    b is the basin of the figures that a card's bytes say
+--   Dry f s                  the land of a card f as it is made
+--   Opened f b               the basin of a card f as it is opened
+--   OpenedBy card b          b is the basin of the figures that a card's bytes say
 use Rattle.std.specs.Prelude.{◌≡◌, ℕ, List, [], ◌∷◌}
 use Rattle.storages.specs.declared.meaning.Storage as storage
 use Rattle.storages.specs.declared.recession.Recession.{Recession}

@@ -1,9 +1,9 @@
 -- Whole feeds: what a list of records leads to, and the law of what is printed.
 --   record_at feed i   record i of a feed; the last may be short
---   count feed        how many records it has
---   Fed               the first records of a feed lead from one view of a basin to another, with their lines (the latest first)
---   texts ls          the bytes of such lines, in their order
---   Tells             each line is that of a record that cannot be read, or that of the call which the record asks for
+--   count feed         how many records it has
+--   Fed                the first records of a feed lead from one view of a basin to another, with their lines (the latest first)
+--   texts ls           the bytes of such lines, in their order
+--   Tells              each line is that of a record that cannot be read, or that of the call which the record asks for
 use Rattle.std.specs.Prelude.{◌≡◌, ℕ, ◌+◌, ◌*◌, ◌/◌, ◌≤◌, List, [], ◌∷◌, ◌++◌, map, length, take, drop, Ok, Err}
 use Rattle.refusals.specs.Limits.{Limit, limit}
 use Rattle.refusals.specs.Notices.{notice_of}

@@ -1,9 +1,9 @@
 -- What posting a record does: the call that it asks for, and the line of the answer.
---   line_of e     the line of a call with its answer
---   Asks ev e    the entry e is a call that the event asks for, with some answer
---   Posts        a record takes a basin to another, and comes to a line
---   Written      the same, with the line at the front of a buffer
---   Posted       the same between what can be seen of the basin
+--   rain_line k r       the line of a rain on segment k with its answer
+--   Answered Did ev l   a call that the event asks for was made, and the line tells its answer
+--   Posts               a record takes a basin to another, and comes to a line
+--   Written             the same, with the line at the front of a buffer
+--   Posted              the same between what can be seen of the basin
 use Rattle.std.specs.Prelude.{◌≡◌, ℕ, List, Ok, Err, Result, MatchResult}
 use Rattle.refusals.specs.Notices.{notice_of}
 use Rattle.refusals.specs.declared.Refusal.{Refusal}

@@ -1,9 +1,9 @@
 -- When a call is refused: its limits in their order, and the first that is passed.
---   Limit          an amount, the most that it may be, and the refusal that is met above that
---   Kept ls        every limit of the list is kept
---   Passed ls f    f is the refusal of the first limit that is passed
+--   Limit              an amount, the most that it may be, and the refusal that is met above that
+--   Kept ls            every limit of the list is kept
+--   Passed ls f        f is the refusal of the first limit that is passed
 --   Answers ls r P K   the answer r is granted exactly where every limit is kept, and then P holds of its value;
---                  otherwise it is the refusal of the first limit that is passed, and K holds
+--                      otherwise it is the refusal of the first limit that is passed, and K holds
 use Rattle.std.specs.Prelude.{◌≡◌, ℕ, ◌<◌, ◌≤◌, ◌⊎◌, List, [], ◌∷◌, Ok, Err, Result}
 use Rattle.refusals.specs.declared.Refusal.{Refusal}
 

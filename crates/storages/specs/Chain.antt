@@ -1,10 +1,10 @@
 -- A chain: one storage above another.
 --   chain_limits   what a chain may be made of
---   both s        both contents
---   lesser s      the lesser ceiling
---   Linked s      what a chain's making gives and every call keeps
---   Chained       a granted step, by the steps of the two
---   ChainDrawn    a granted draw, by the draws of the two
+--   both s         both contents
+--   lesser s       the lesser ceiling
+--   Linked s       what a chain's making gives and every call keeps
+--   Chained        a granted step, by the steps of the two
+--   ChainDrawn     a granted draw, by the draws of the two
 use Rattle.std.specs.Prelude.{◌≡◌, List, [], ◌∷◌, ℕ, ◌+◌, ◌-◌, ◌≤◌, min}
 use Rattle.refusals.specs.Limits.{Limit, limit}
 use Rattle.refusals.specs.declared.Refusal.TheVariants.{JoinedContents}

@@ -1,7 +1,7 @@
 -- A leak: part of each inflow goes deep before it reaches the storage below.
---   leak_limits loss     what a leak may be made of
---   lost loss i         how much of an inflow goes deep
---   Leaks               a granted step, by the step of the storage below
+--   leak_limits loss   what a leak may be made of
+--   lost loss i        how much of an inflow goes deep
+--   Leaks              a granted step, by the step of the storage below
 use Rattle.std.specs.Prelude.{◌≡◌, List, [], ◌∷◌, ℕ, ◌+◌, ◌-◌, ◌*◌, ◌/◌}
 use Rattle.refusals.specs.Limits.{Limit, limit}
 use Rattle.refusals.specs.declared.Refusal.TheVariants.{StorageFigure}

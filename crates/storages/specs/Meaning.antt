@@ -1,8 +1,8 @@
 -- What a storage means: content, ceiling, and what a step and a draw do to them.
---   whole        the parts that make a whole
---   top          the greatest ceiling
---   Out          the answer of a granted step: release, evaporated, deep loss
---   gone o       all that left
+--   whole    the parts that make a whole
+--   top      the greatest ceiling
+--   Out      the answer of a granted step: release, evaporated, deep loss
+--   gone o   all that left
 use Rattle.std.specs.Prelude.{◌≡◌, List, [], ◌∷◌, ℕ, ◌+◌, ◌-◌, ◌*◌, ◌/◌, ◌≤◌, min}
 use Rattle.refusals.specs.Limits.{Limit, limit}
 use Rattle.refusals.specs.declared.Refusal.TheVariants.{StorageFigure, StorageFull, DrawAmount}

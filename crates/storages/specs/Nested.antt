@@ -1,8 +1,8 @@
 -- Storages that are made of storages, as storages: what a leak and a chain mean, by what their parts mean.
 --   leaking     a leak over a storage
 --   chaining    one storage above another
---   leak_tap     how water is drawn from a leak
---   chain_tap    how water is drawn from a chain
+--   leak_tap    how water is drawn from a leak
+--   chain_tap   how water is drawn from a chain
 use Rattle.std.specs.Prelude.{◌≡◌}
 use Rattle.storages.specs.Chain.{both, lesser, Linked, Chained, ChainDrawn}
 use Rattle.storages.specs.Leak.{Leaks}

@@ -1,6 +1,6 @@
 -- A slope: overland water, which runs off the faster the deeper it stands.
---   slope_top            the ceiling of every slope
---   slope_limits rate    what a slope may be made of
+--   slope_top           the ceiling of every slope
+--   slope_limits rate   what a slope may be made of
 --   Runs rate full r    r would run off of a sheet so deep, were there no end to it
 --   Flows rate full o   the answer where the slope holds that much with the inflow
 use Rattle.std.specs.Prelude.{◌≡◌, List, [], ◌∷◌, ℕ, ◌*◌, ◌/◌, min}

@@ -4,7 +4,7 @@ ghost use Rattle.refusals.specs.Limits.{Answers};
 ghost use Rattle.storages.specs.Leak.{leak_limits, Leaks};
 ghost use Rattle.storages.specs.Leak as SpecsLeak;
 ghost use Rattle.storages.specs.Balances.{leak_stepped};
-ghost use Rattle.std.proofs.Common.{rules, arith};
+ghost use Rattle.std.proofs.Common.{rules};
 
 use crate::meaning::{Storage, Tapped};
 use crate::parts::part;
@@ -41,10 +41,11 @@ impl<A: Storage> Storage for Leak<A> {
 
     ghost steps = { λ s i d o t. Leaks A.Storage s.loss s.below i d o t.below × (t.loss ≡ s.loss) };
 
-    ghost within = { first_of (Prim.search rules, Prim.grind (arith, Self.row.coded.inj)) };
+    ghost within = { Prim.search rules };
 
-    ghost bounded = { first_of (Prim.search rules, Prim.grind (arith, Self.row.coded.inj)) };
+    ghost bounded = { Prim.search rules };
 
+    // a leak's step means what a step means, since the step below does
     ghost stepped = { λ s t i d o sound steps.
         let inner = steps.0.inner in
         let below = A.Storage.stepped s.below t.below (i - SpecsLeak.lost s.loss i) d inner sound steps.0.steps in
@@ -71,7 +72,7 @@ impl<A: Storage> Storage for Leak<A> {
 impl<A: Tapped> Tapped for Leak<A> {
     ghost draws = { λ s n t. A.Tapped.draws s.below n t.below × (t.loss ≡ s.loss) };
 
-    ghost drawn = { first_of (Prim.search rules, Prim.grind (arith, Self.row.coded.inj)) };
+    ghost drawn = { Prim.search rules };
 
     fn draw(&mut self, amount: u64) -> Result<(), Refusal> {
         if amount > self.below.content() {

@@ -2,7 +2,7 @@
 ghost use Rattle.std.specs.Prelude.{◌≡◌, ℕ, ◌+◌, ◌-◌, ◌*◌, ◌/◌, ◌<◌, ◌≤◌};
 ghost use Rattle.refusals.specs.Limits.{Answers};
 ghost use Rattle.storages.specs.Meaning.{Out, gone, top, whole, recession_limits, recedes};
-ghost use Rattle.std.proofs.Common.{rules, arith};
+ghost use Rattle.std.proofs.Common.{rules};
 
 use crate::meaning::{Storage, Tapped};
 use crate::parts::part;
@@ -44,11 +44,11 @@ impl Storage for Recession {
 
     ghost steps = { λ s i d o t. (o ≡ recedes s.rate (s.content + i) d) × (t.content + gone o ≡ s.content + i) × (t.rate ≡ s.rate) × (t.ceiling ≡ s.ceiling) };
 
-    ghost within = { first_of (Prim.search rules, Prim.grind (arith, Self.row.coded.inj)) };
+    ghost within = { Prim.search rules };
 
-    ghost bounded = { first_of (Prim.search rules, Prim.grind (arith, Self.row.coded.inj)) };
+    ghost bounded = { Prim.search rules };
 
-    ghost stepped = { first_of (Prim.search rules, Prim.grind (arith, Self.row.coded.inj)) };
+    ghost stepped = { Prim.search rules };
 
     fn content(&self) -> u64 {
         self.content
@@ -74,7 +74,7 @@ impl Storage for Recession {
 impl Tapped for Recession {
     ghost draws = { λ s n t. (t.content + n ≡ s.content) × (t.rate ≡ s.rate) × (t.ceiling ≡ s.ceiling) };
 
-    ghost drawn = { first_of (Prim.search rules, Prim.grind (arith, Self.row.coded.inj)) };
+    ghost drawn = { Prim.search rules };
 
     fn draw(&mut self, amount: u64) -> Result<(), Refusal> {
         if amount > self.content {

@@ -3,7 +3,7 @@ ghost use Rattle.std.specs.Prelude.{◌≡◌, ◌+◌, ◌<◌, ◌≤◌};
 ghost use Rattle.refusals.specs.Limits.{Answers};
 ghost use Rattle.storages.specs.Meaning.{gone};
 ghost use Rattle.storages.specs.Slope.{slope_top, slope_limits, Runs, Flows};
-ghost use Rattle.std.proofs.Common.{rules, arith};
+ghost use Rattle.std.proofs.Common.{rules};
 
 use crate::meaning::Storage;
 use figures::root::root;
@@ -51,11 +51,11 @@ impl Storage for Slope {
 
     ghost steps = { λ s i d o t. Flows s.rate (s.content + i) o × (t.content + gone o ≡ s.content + i) × (t.rate ≡ s.rate) };
 
-    ghost within = { first_of (Prim.search rules, Prim.grind (arith, Self.row.coded.inj)) };
+    ghost within = { Prim.search rules };
 
-    ghost bounded = { first_of (Prim.search rules, Prim.grind (arith, Self.row.coded.inj)) };
+    ghost bounded = { Prim.search rules };
 
-    ghost stepped = { first_of (Prim.search rules, Prim.grind (arith, Self.row.coded.inj)) };
+    ghost stepped = { Prim.search rules };
 
     fn content(&self) -> u64 {
         self.content
