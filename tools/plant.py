@@ -4,9 +4,9 @@
     tools/plant.py [WORD ...]     after 'rt all check'; only the bugs whose name holds a WORD, where any is given
 
 tools/planted.txt has the bugs: edits of one line of src/, of which each turns the meaning of the code. An edit is made in a
-copy of the repository and its crate is checked; where it is still proved, so is every crate. A bug is refused where a fact no longer holds, and its line says at which line of the code or of
-a proof. One that survives shows a contract that is too weak, unless planted.txt says in a sentence why the edit means the
-same program.
+copy of the repository and its crate is checked; where it still proves, every crate is checked. A bug is refused where a fact
+no longer holds, and its line says at which line of the code or of a proof. One that survives shows a contract that is too
+weak, unless planted.txt says in a sentence why the edit means the same program.
 """
 import re
 import shutil
