@@ -2,7 +2,8 @@
 use Rattle.std.proofs.Common.{◌≡◌, ℕ, zero, suc, ◌+◌, ◌*◌, ◌<◌, ◌≤◌, List, [], ◌∷◌, length, get_or, set, sym, refl, ap, ◌∙◌, mul_comm, mul-add, arith, length-set}
 use Rattle.std.proofs.lemmas.Nat.{mul-le}
 use Rattle.storages.specs.Meaning.{Out}
-use Rattle.banks.specs.Rows.{Tract, tract, at, volume, areas, Fit, Bounded, Rained}
+use Rattle.banks.specs.declared.tract.Tract.{Tract}
+use Rattle.banks.specs.Rows.{tract, at, volume, areas, Fit, Bounded, Rained}
 
 -- the water on one segment
 pub tract_volume : (t : Tract) → Fit t → t.area * t.content ≤ 500000000000

@@ -4,8 +4,8 @@ use Rattle.std.proofs.Common.{sym, ap, subst, ◌∙◌, ⊎_elim, arith}
 use Rattle.std.proofs.lemmas.List.{get_or_append_left, get_or-append_right, get_or-append-add, length-append, set-append_left, set-append_right}
 use Rattle.std.proofs.lemmas.Bool.{cases_lt}
 use Rattle.storages.specs.Meaning.{Out, Stepped}
-use Rattle.banks.specs.Kinds.{Same}
-use Rattle.banks.specs.Rows.{Tract, tract, at, volume, Fit, Bounded, Rained}
+use Rattle.banks.specs.declared.tract.Tract.{Tract}
+use Rattle.banks.specs.Rows.{tract, at, volume, Fit, Bounded, Rained}
 
 pub left : (xs ys : List Tract) (k : ℕ) → k < length xs → at (xs ++ ys) k ≡ at xs k
 left xs ys k h = get_or_append_left xs ys (tract 0 0 0) k h
@@ -52,7 +52,3 @@ rained_right xs ys j i d o zs r =
       step = moved (at ys j) (at (xs ++ ys) (length xs + j)) (sym (right_at xs ys j)) i d o r.content r.step;
       after = ap (λ l. xs ++ l) r.after ∙ ap (λ n. xs ++ slice_set ys n (tract (at ys j).area r.content (at ys j).ceiling)) (sym e) ∙ sym (set-append_right xs ys (length xs) (length xs + j) _ refl (omega arith)) ∙ ap (λ t. slice_set (xs ++ ys) (length xs + j) (tract t.area r.content t.ceiling)) (sym (right_at xs ys j));
     }
-
--- figure by figure
-pub same : (t u : Tract) → t ≡ u → Same t u
-same t u e = record { area = ap (λ x. x.area) e; content = ap (λ x. x.content) e; ceiling = ap (λ x. x.ceiling) e }

@@ -2,7 +2,8 @@
 use Rattle.std.specs.Prelude.{◌≡◌, ℕ, zero, suc, ◌<◌, [], ◌∷◌, refl}
 use Rattle.std.proofs.Common.{ap, ◌∙◌, arith}
 use Rattle.storages.specs.Meaning.{Out, Stepped}
-use Rattle.banks.specs.Rows.{Tract, tract, at, Fit, Rained}
+use Rattle.banks.specs.declared.tract.Tract.{Tract}
+use Rattle.banks.specs.Rows.{tract, at, Fit, Rained}
 
 pub only : (t : Tract) → Fit t → (k : ℕ) → k < 1 → Fit (at (t ∷ []) k)
 only t f zero h = f

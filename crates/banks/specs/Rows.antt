@@ -1,5 +1,5 @@
 -- What a bank means: a row of segments, and what a rain does to it.
---   Tract       a segment as a bank shows it: area, content, ceiling
+--   tract       a segment as a bank shows it: area, content, ceiling
 --   at ts k     segment k of a row, all zeros where it is missing
 --   volume ts   the water on a row: area times content, added up
 --   areas ts    the areas of a row
@@ -7,11 +7,7 @@ use Rattle.std.specs.Prelude.{◌≡◌, ℕ, ◌+◌, ◌*◌, ◌<◌, ◌≤�
 use Rattle.refusals.specs.Limits.{Limit, limit}
 use Rattle.refusals.specs.declared.Refusal.TheVariants.{NoSuchSegment, StorageFull}
 use Rattle.storages.specs.Meaning.{Out, Stepped}
-
-pub record Tract : Type 0 where
-  pub area : ℕ
-  pub content : ℕ
-  pub ceiling : ℕ
+use Rattle.banks.specs.declared.tract.Tract.{Tract}
 
 abbrev pub tract : (area content ceiling : ℕ) → Tract
 tract a c m = record { area = a; content = c; ceiling = m }
@@ -39,9 +35,13 @@ pub record Bounded (ts : List Tract) : Type 0 where
   pub few : length ts ≤ 16
   pub each : (k : ℕ) → k < length ts → Fit (at ts k)
 
+-- rain on segment k meets a full one, here known by another number
+abbrev pub room_limits : List Tract → (k depth named : ℕ) → List Limit
+room_limits ts k depth named = limit ((at ts k).content + depth) (at ts k).ceiling (StorageFull named) ∷ []
+
 -- rain on segment k meets a missing segment, then a full one
 abbrev pub rain_limits : List Tract → (k depth : ℕ) → List Limit
-rain_limits ts k depth = limit (k + 1) (length ts) (NoSuchSegment k) ∷ limit ((at ts k).content + depth) (at ts k).ceiling (StorageFull k) ∷ []
+rain_limits ts k depth = limit (k + 1) (length ts) (NoSuchSegment k) ∷ room_limits ts k depth k
 
 -- a granted rain: segment k alone changes, and only its content, as by a storage's step
 pub record Rained (ts : List Tract) (k depth demand : ℕ) (o : Out) (us : List Tract) : Type 0 where

@@ -4,7 +4,9 @@
 mod meaning;
 mod pair;
 mod plot;
+mod tract;
 
 pub use meaning::Bank;
 pub use pair::Pair;
 pub use plot::Plot;
+pub use tract::Tract;

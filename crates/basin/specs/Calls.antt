@@ -3,7 +3,8 @@ use Rattle.std.specs.Prelude.{◌≡◌, ℕ, ◌+◌, ◌*◌, List, [], ◌∷
 use Rattle.refusals.specs.Limits.{Limit, limit, Answers}
 use Rattle.refusals.specs.declared.Refusal.TheVariants.{OpeningAboveCeiling, NoSuchSegment, RainAboveLimit, DemandAboveLimit, StorageFull, BasinFull, BookFull, DrawAmount, EmptyParcel}
 use Rattle.storages.specs.Meaning.{Out}
-use Rattle.banks.specs.Rows.{Tract, at, areas, volume, Rained}
+use Rattle.banks.specs.declared.tract.Tract.{Tract}
+use Rattle.banks.specs.Rows.{at, areas, volume, Rained}
 use Rattle.basin.specs.Law.{View, Entry, by_rain, by_turn, by_draw, by_pour, by_closing, by_question, held, fresh, added, page}
 use Rattle.basin.specs.declared.book.Book.{Book}
 use Rattle.basin.specs.declared.parcel.Parcel.{Parcel}

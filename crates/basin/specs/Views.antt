@@ -2,7 +2,8 @@
 use Rattle.std.specs.Prelude.{ℕ, ◌+◌, List, Ok, Err, Result}
 use Rattle.refusals.specs.declared.Refusal.{Refusal}
 use Rattle.storages.specs.Meaning.{Out}
-use Rattle.banks.specs.Rows.{Tract, volume}
+use Rattle.banks.specs.Rows.{volume}
+use Rattle.banks.specs.declared.tract.Tract.{Tract}
 use Rattle.basin.specs.declared.book.Book.{Book}
 use Rattle.basin.specs.declared.book.Sums.{Sums}
 use Rattle.basin.specs.declared.parcel.Parcel.{Parcel}

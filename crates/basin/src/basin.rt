@@ -1,11 +1,10 @@
 // The calls on a basin. Each says what it does to what can be seen, and to the bank and the channel themselves.
 ghost use Rattle.std.specs.Prelude.{◌≡◌, ℕ, ◌+◌, ◌≤◌, IfOk, MatchResult};
 ghost use Rattle.refusals.specs.Limits.{Answers, Kept};
-ghost use Rattle.storages.specs.Meaning.{Out};
-ghost use Rattle.banks.specs.Rows.{at};
-ghost use Rattle.basin.specs.Law.{held, New, Law, by_rain, by_turn, by_draw, by_pour, by_closing, by_question};
+ghost use Rattle.storages.specs.Meaning.{Out, top};
+ghost use Rattle.banks.specs.Rows.{at, volume};
+ghost use Rattle.basin.specs.Law.{held, New, Law, Even, page, by_rain, by_turn, by_draw, by_pour, by_closing, by_question};
 ghost use Rattle.basin.specs.Calls.{Called, Rains, opening_limits, rain_limits};
-ghost use Rattle.basin.specs.Basins.{view, Sound, RainMoved, Moved};
 
 use crate::book::{Book, Sums};
 use crate::parcel::Parcel;
@@ -15,25 +14,29 @@ use storages::{Storage, Tapped};
 
 // A bank over a channel. Water that the bank releases waits in the pocket until the channel takes it.
 #[derive(Drop)]
-pub struct Basin<B: Bank, C: Tapped> {
+pub struct Basin<B: Bank, C: Storage> {
     bank: B,
     channel: C,
     pocket: u64,
     sums: Sums,
+    ghost room: { volume (B.Bank.tracts bank) + pocket + C.Storage.holds channel ≤ C.Storage.limit channel },
+    ghost even: { Even sums (volume (B.Bank.tracts bank) + pocket + C.Storage.holds channel) },
+    ghost opening: { sums.opening ≤ top },
+    ghost fits: { sums.rain + sums.poured ≤ page },
 }
 
 // The most rain and poured water of one book.
 const PAGE: u64 = 1_000_000_000_000_000;
 
 impl<B: Bank, C: Tapped> Basin<B, C> {
+    ghost use Rattle.basin.specs.Basins.{view, RainMoved, Moved};
+
     // Opens a basin with all that its bank and its channel hold. From here on its books balance, whatever is called.
     pub fn open(bank: B, channel: C) -> Result<Basin<B, C>, Refusal>
     where
         B: Drop,
         C: Drop,
-        requires bank { B.Bank.sound bank }
-        requires channel { C.Storage.sound channel }
-        ensures opened { Answers (opening_limits (B.Bank.tracts bank) (C.Storage.holds channel) (C.Storage.limit channel)) result (λ b. Sound B.Bank C.Storage b × New (view B.Bank C.Storage b) × (b.bank ≡ bank) × (b.channel ≡ channel)) (Unit {0}) }
+        ensures opened { Answers (opening_limits (B.Bank.tracts bank) (C.Storage.holds channel) (C.Storage.limit channel)) result (λ b. New (view B.Bank C.Storage b) × (b.bank ≡ bank) × (b.channel ≡ channel)) (Unit {0}) }
         ensures law { IfOk result (λ b. Law Called (view B.Bank C.Storage b)) }
     {
         let opening = bank.volume() + channel.content();
@@ -50,7 +53,6 @@ impl<B: Bank, C: Tapped> Basin<B, C> {
 
     // All water held: on the bank, in the pocket and in the channel.
     fn held(&self) -> u64
-        requires { Sound B.Bank C.Storage self.now }
         ensures { result ≡ held (view B.Bank C.Storage self.now) }
     {
         self.bank.volume() + self.pocket + self.channel.content()
@@ -58,7 +60,6 @@ impl<B: Bank, C: Tapped> Basin<B, C> {
 
     // The checks of a rain, in their order; answers the segment's area.
     fn admit(&self, segment: u64, depth: u64, demand: u64) -> Result<u64, Refusal>
-        requires { Sound B.Bank C.Storage self.now }
         ensures { Answers (rain_limits (view B.Bank C.Storage self.now) segment depth demand) result (λ a. a ≡ (at (B.Bank.tracts self.now.bank) segment).area) (Unit {0}) }
     {
         if segment >= self.bank.count() {
@@ -70,18 +71,18 @@ impl<B: Bank, C: Tapped> Basin<B, C> {
         if demand > 1_000_000 {
             return Err(Refusal::DemandAboveLimit(segment));
         }
-        if depth > self.bank.ceiling(segment) - self.bank.content(segment) {
+        let tract = self.bank.tract(segment);
+        if depth > tract.ceiling - tract.content {
             return Err(Refusal::StorageFull(segment));
         }
-        let area = self.bank.area(segment);
-        let fall = depth * area;
+        let fall = depth * tract.area;
         if fall > self.channel.ceiling() - self.held() {
             return Err(Refusal::BasinFull(segment));
         }
         if fall > PAGE - (self.sums.rain + self.sums.poured) {
             return Err(Refusal::BookFull(segment));
         }
-        Ok(area)
+        Ok(tract.area)
     }
 
     // Rain on one segment: answers what ran off, evaporated and was lost deep, as volumes. What ran off joins the pocket.
@@ -91,8 +92,6 @@ impl<B: Bank, C: Tapped> Basin<B, C> {
         depth: u64,
         demand: u64,
     ) -> Result<(u64, u64, u64), Refusal>
-        requires { Sound B.Bank C.Storage self.old }
-        ensures sound { Sound B.Bank C.Storage self.new }
         ensures called { Called (view B.Bank C.Storage self.old) (by_rain segment depth demand result) (view B.Bank C.Storage self.new) }
         ensures moved { Moved B.Bank C.Storage C.Tapped.own self.old (by_rain segment depth demand result) self.new }
     {
@@ -102,12 +101,10 @@ impl<B: Bank, C: Tapped> Basin<B, C> {
 
     // A rain that no rule refuses: the bank rains, and its depths are entered as volumes.
     fn rain_admitted(&mut self, segment: u64, depth: u64, demand: u64, area: u64) -> (u64, u64, u64)
-        requires sound { Sound B.Bank C.Storage self.old }
         requires limits { Kept (rain_limits (view B.Bank C.Storage self.old) segment depth demand) }
         requires area { area ≡ (at (B.Bank.tracts self.old.bank) segment).area }
-        ensures sound { Sound B.Bank C.Storage self.new }
         ensures rains { Rains (view B.Bank C.Storage self.old) segment depth demand result (view B.Bank C.Storage self.new) }
-        ensures moved { RainMoved B.Bank self.old segment depth demand result self.new }
+        ensures moved { RainMoved B.Bank C.Storage self.old segment depth demand result self.new }
     {
         match self.bank.rain(segment, depth, demand) {
             Ok((release, evaporated, deep)) => {
@@ -123,8 +120,6 @@ impl<B: Bank, C: Tapped> Basin<B, C> {
 
     // The channel takes the pocket: answers streamflow and deep loss.
     pub fn turn(&mut self) -> (u64, u64)
-        requires { Sound B.Bank C.Storage self.old }
-        ensures sound { Sound B.Bank C.Storage self.new }
         ensures called { Called (view B.Bank C.Storage self.old) (by_turn result.0 result.1) (view B.Bank C.Storage self.new) }
         ensures moved { Moved B.Bank C.Storage C.Tapped.own self.old (by_turn result.0 result.1) self.new }
     {
@@ -138,8 +133,6 @@ impl<B: Bank, C: Tapped> Basin<B, C> {
 
     // Takes channel water as a parcel.
     pub fn draw(&mut self, amount: u64) -> Result<Parcel, Refusal>
-        requires { Sound B.Bank C.Storage self.old }
-        ensures sound { Sound B.Bank C.Storage self.new }
         ensures called { Called (view B.Bank C.Storage self.old) (by_draw amount result) (view B.Bank C.Storage self.new) }
         ensures moved { Moved B.Bank C.Storage C.Tapped.own self.old (by_draw amount result) self.new }
     {
@@ -153,8 +146,6 @@ impl<B: Bank, C: Tapped> Basin<B, C> {
 
     // Empties a parcel into the pocket.
     pub fn pour(&mut self, parcel: &mut Parcel) -> Result<(), Refusal>
-        requires { Sound B.Bank C.Storage self.old }
-        ensures sound { Sound B.Bank C.Storage self.new }
         ensures called { Called (view B.Bank C.Storage self.old) (by_pour parcel.old.amount result) (view B.Bank C.Storage self.new) }
         ensures moved { Moved B.Bank C.Storage C.Tapped.own self.old (by_pour parcel.old.amount result) self.new }
         ensures parcel { MatchResult result (λ _. parcel.new.amount ≡ 0) (λ _. parcel.new ≡ parcel.old) }
@@ -177,7 +168,6 @@ impl<B: Bank, C: Tapped> Basin<B, C> {
 
     // The book as a closing would answer it.
     pub fn question(&self) -> Book
-        requires { Sound B.Bank C.Storage self.now }
         ensures { Called (view B.Bank C.Storage self.now) (by_question result) (view B.Bank C.Storage self.now) }
     {
         Book {
@@ -188,8 +178,6 @@ impl<B: Bank, C: Tapped> Basin<B, C> {
 
     // Answers the book, and begins another with all water held.
     pub fn closing(&mut self) -> Book
-        requires { Sound B.Bank C.Storage self.old }
-        ensures sound { Sound B.Bank C.Storage self.new }
         ensures called { Called (view B.Bank C.Storage self.old) (by_closing result) (view B.Bank C.Storage self.new) }
         ensures moved { Moved B.Bank C.Storage C.Tapped.own self.old (by_closing result) self.new }
     {
@@ -201,9 +189,7 @@ impl<B: Bank, C: Tapped> Basin<B, C> {
 
 // A storage takes an inflow that it has room for, and no demand: answers release and deep loss.
 fn take<S: Storage>(storage: &mut S, inflow: u64) -> (u64, u64)
-    requires sound { S.Storage.sound storage.old }
-    requires room { S.Storage.holds storage.old + inflow ≤ S.Storage.limit storage.old }
-    ensures sound { S.Storage.sound storage.new }
+    requires { S.Storage.holds storage.old + inflow ≤ S.Storage.limit storage.old }
     ensures steps { S.Storage.steps storage.old inflow 0 (result.0, 0, result.1) storage.new }
     ensures balance { S.Storage.holds storage.new + result.0 + result.1 ≡ S.Storage.holds storage.old + inflow }
     ensures ceiling { S.Storage.limit storage.new ≡ S.Storage.limit storage.old }

@@ -3,7 +3,7 @@ ghost use Rattle.std.specs.Prelude.{◌≡◌, ℕ, ◌+◌, ◌^◌, ◌<◌};
 ghost use Rattle.basin.specs.Law.{fresh, sums_of};
 
 // The running sums of a book, in acre-microinches.
-#[derive(Clone, Copy, PartialEq, Eq, Debug)]
+#[derive(Clone, Copy, PartialEq, Eq, Debug, Default)]
 pub struct Sums {
     pub opening: u64,
     pub rain: u64,
@@ -28,12 +28,7 @@ impl Sums {
     {
         Sums {
             opening,
-            rain: 0,
-            streamflow: 0,
-            evaporated: 0,
-            deep: 0,
-            drawn: 0,
-            poured: 0,
+            ..Sums::default()
         }
     }
 }

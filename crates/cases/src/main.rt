@@ -2,7 +2,6 @@
 #![tactic(auto)]
 
 ghost use Rattle.std.specs.Prelude.{◌≡◌, ℕ, length};
-ghost use Rattle.basin.specs.Basins.{Sound};
 
 use crate::packed::Packed;
 use banks::Bank;
@@ -20,9 +19,7 @@ const BLOCK: usize = 16_384;
 const PAGE: usize = 196_608;
 
 // Whether the lines of a feed on a basin are those expected.
-fn feed_agrees<B: Bank, C: Tapped>(basin: &mut Basin<B, C>, feed: &[u8], lines: &[u8]) -> bool
-    requires { Sound B.Bank C.Storage basin.old }
-{
+fn feed_agrees<B: Bank, C: Tapped>(basin: &mut Basin<B, C>, feed: &[u8], lines: &[u8]) -> bool {
     let mut page = [0u8; PAGE];
     let mut expected = lines;
     for block in feed.chunks(BLOCK) {

@@ -1,8 +1,6 @@
 // A river through one wet day: what flows in, what flows out, what goes deep, what is drawn, what is held.
 #![tactic(auto)]
 
-ghost use Rattle.nesting.specs.River.{river_means};
-
 use anyhow::anyhow;
 use nesting::{River, new_river, pump};
 use storages::Storage;
@@ -19,10 +17,7 @@ const HUNDREDTH: u64 = 1_660_000;
 const ASKED: u64 = 20_000_000;
 
 // One hour of the river, told in words.
-fn tell(rt: &HostRuntime, hour: usize, inflow: u64, river: &mut River) -> anyhow::Result<()>
-    requires { river_means.sound river.old }
-    ensures { river_means.sound river.new }
-{
+fn tell(rt: &HostRuntime, hour: usize, inflow: u64, river: &mut River) -> anyhow::Result<()> {
     let asked = if hour % 4 == 0 { ASKED } else { 0 };
     let Ok((release, deep, drawn)) = pump(river, inflow, asked) else {
         println!(rt; "hour {hour}: {inflow} are refused, the river is full")?;
@@ -38,10 +33,7 @@ fn tell(rt: &HostRuntime, hour: usize, inflow: u64, river: &mut River) -> anyhow
 }
 
 // The day, hour by hour from 1.
-fn day(rt: &HostRuntime, river: &mut River) -> anyhow::Result<()>
-    requires { river_means.sound river.old }
-    ensures { river_means.sound river.new }
-{
+fn day(rt: &HostRuntime, river: &mut River) -> anyhow::Result<()> {
     for (hour, hundredths) in RAIN.iter().enumerate() {
         tell(rt, hour + 1, u64::from(*hundredths) * HUNDREDTH, river)?;
     }

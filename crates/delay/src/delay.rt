@@ -41,8 +41,6 @@ impl Delay {
 }
 
 impl Storage for Delay {
-    ghost sound = { λ _. Unit {0} };
-
     ghost holds = { λ s. s.content };
 
     ghost limit = { λ s. s.ceiling };

@@ -2,6 +2,7 @@
 #![tactic(auto)]
 
 pub mod curve;
+pub mod fraction;
 pub mod power;
 pub mod root;
 pub mod share;

@@ -2,7 +2,6 @@
 #![tactic(auto)]
 
 ghost use Rattle.std.specs.Prelude.{ℕ};
-ghost use Rattle.basin.specs.Basins.{Sound};
 
 use crate::tally::{Granted, Tally};
 use anyhow::anyhow;
@@ -47,10 +46,7 @@ fn rain<B: Bank, C: Tapped>(
     segment: u64,
     area: u64,
     depth: u64,
-) -> anyhow::Result<()>
-    requires { Sound B.Bank C.Storage basin.old }
-    ensures { Sound B.Bank C.Storage basin.new }
-{
+) -> anyhow::Result<()> {
     println!(rt; "rain of {depth} microinches on plot {segment}")?;
     match basin.rain(segment, depth, DEMAND) {
         Ok((runoff, evaporated, deep)) => {
@@ -71,10 +67,7 @@ fn turn<B: Bank, C: Tapped>(
     rt: &HostRuntime,
     basin: &mut Basin<B, C>,
     tally: &mut Tally,
-) -> anyhow::Result<()>
-    requires { Sound B.Bank C.Storage basin.old }
-    ensures { Sound B.Bank C.Storage basin.new }
-{
+) -> anyhow::Result<()> {
     let (streamflow, deep) = basin.turn();
     println!(rt; "turn: {streamflow} flowed out, {deep} went deep")?;
     let Some(more) = tally.add(Granted::Turn(streamflow, deep)) else {
@@ -90,10 +83,7 @@ fn hour<B: Bank, C: Tapped>(
     basin: &mut Basin<B, C>,
     tally: &mut Tally,
     depth: u64,
-) -> anyhow::Result<()>
-    requires { Sound B.Bank C.Storage basin.old }
-    ensures { Sound B.Bank C.Storage basin.new }
-{
+) -> anyhow::Result<()> {
     rain(rt, basin, tally, 0, TURF, depth)?;
     rain(rt, basin, tally, 1, TERRACES, depth)?;
     turn(rt, basin, tally)
@@ -105,10 +95,7 @@ fn day<B: Bank, C: Tapped>(
     basin: &mut Basin<B, C>,
     tally: &mut Tally,
     depths: &[u64],
-) -> anyhow::Result<()>
-    requires { Sound B.Bank C.Storage basin.old }
-    ensures { Sound B.Bank C.Storage basin.new }
-{
+) -> anyhow::Result<()> {
     for depth in depths {
         hour(rt, basin, tally, *depth)?;
     }
@@ -121,10 +108,7 @@ fn draw<B: Bank, C: Tapped>(
     basin: &mut Basin<B, C>,
     tally: &mut Tally,
     amount: u64,
-) -> anyhow::Result<Option<Parcel>>
-    requires { Sound B.Bank C.Storage basin.old }
-    ensures { Sound B.Bank C.Storage basin.new }
-{
+) -> anyhow::Result<Option<Parcel>> {
     println!(rt; "the pump asks for {amount}")?;
     let Some(more) = tally.add(Granted::Draw(amount)) else {
         return Err(anyhow!(TOO_LARGE));
@@ -154,10 +138,7 @@ fn give_back<B: Bank, C: Tapped>(
     basin: &mut Basin<B, C>,
     tally: &mut Tally,
     mut parcel: Parcel,
-) -> anyhow::Result<()>
-    requires { Sound B.Bank C.Storage basin.old }
-    ensures { Sound B.Bank C.Storage basin.new }
-{
+) -> anyhow::Result<()> {
     let amount = parcel.amount();
     match basin.pour(&mut parcel) {
         Ok(()) => println!(rt; "  {amount} poured back")?,
@@ -178,10 +159,7 @@ fn pumping<B: Bank, C: Tapped>(
     rt: &HostRuntime,
     basin: &mut Basin<B, C>,
     tally: &mut Tally,
-) -> anyhow::Result<()>
-    requires { Sound B.Bank C.Storage basin.old }
-    ensures { Sound B.Bank C.Storage basin.new }
-{
+) -> anyhow::Result<()> {
     if let Some(parcel) = draw(rt, basin, tally, 2_500_000)? {
         book(rt, parcel)?;
     }
@@ -205,10 +183,7 @@ fn close<B: Bank, C: Tapped>(
     rt: &HostRuntime,
     basin: &mut Basin<B, C>,
     tally: &mut Tally,
-) -> anyhow::Result<()>
-    requires { Sound B.Bank C.Storage basin.old }
-    ensures { Sound B.Bank C.Storage basin.new }
-{
+) -> anyhow::Result<()> {
     let book = basin.closing();
     println!(rt; "closing            book       tally")?;
     beside(rt, "opening", book.sums.opening, tally.since.opening)?;
@@ -236,10 +211,7 @@ fn close<B: Bank, C: Tapped>(
 }
 
 // The storm, the pump, a closing, and a dry day after it.
-fn two_days<B: Bank, C: Tapped>(rt: &HostRuntime, basin: &mut Basin<B, C>) -> anyhow::Result<()>
-    requires { Sound B.Bank C.Storage basin.old }
-    ensures { Sound B.Bank C.Storage basin.new }
-{
+fn two_days<B: Bank, C: Tapped>(rt: &HostRuntime, basin: &mut Basin<B, C>) -> anyhow::Result<()> {
     let mut tally = Tally::new(basin.question().held);
     day(rt, basin, &mut tally, &STORM)?;
     pumping(rt, basin, &mut tally)?;

@@ -87,6 +87,10 @@ drying_of f z e = record {
 abbrev pub still : Zones → ℕ
 still z = z.interception + z.upper + z.lower
 
+-- the ceiling over three storages: the least of theirs and 10^8
+abbrev pub least_of : (slope interflow groundwater : ℕ) → ℕ
+least_of a b c = min (min (min a b) c) 100000000
+
 -- what leaves them
 abbrev pub sent : Flows → ℕ
 sent r = r.runoff + r.slope + r.interflow + r.groundwater + r.evaporated

@@ -1,9 +1,9 @@
 // A segment: the land of one checked card over three storages, as a storage.
-ghost use Rattle.std.specs.Prelude.{◌≡◌, ◌+◌, ◌≤◌, min};
+ghost use Rattle.std.specs.Prelude.{◌≡◌, ◌+◌, ◌≤◌};
 ghost use Rattle.refusals.specs.Limits.{Answers};
 ghost use Rattle.storages.specs.Meaning.{Out, gone};
 ghost use Rattle.land.specs.Laws.{HourLaws};
-ghost use Rattle.land.specs.Segments.{Whole, Hours, six, least, bare, segment_limits};
+ghost use Rattle.land.specs.Hour.{still, least_of};
 ghost use Rattle.std.proofs.Common.{rules};
 
 use crate::flows::flows;
@@ -21,10 +21,13 @@ pub struct Segment<S: Storage, I: Storage, G: Storage> {
     slope: S,
     interflow: I,
     groundwater: G,
+    ghost room: { still zones + S.Storage.holds slope + I.Storage.holds interflow + G.Storage.holds groundwater ≤ least_of (S.Storage.limit slope) (I.Storage.limit interflow) (G.Storage.limit groundwater) },
 }
 
 impl<S: Storage, I: Storage, G: Storage> Segment<S, I, G> {
-    // Dry land over three storages, which keep what they hold; a refusal gives them up. The laws of the hour hold of every card.
+    ghost use Rattle.land.specs.Segments.{Bare, segment_limits};
+
+    // Bare land over three storages, which keep what they hold; a refusal gives them up. The laws of the hour hold of every card.
     pub fn new(
         card: Card,
         slope: S,
@@ -35,55 +38,48 @@ impl<S: Storage, I: Storage, G: Storage> Segment<S, I, G> {
         S: Drop,
         I: Drop,
         G: Drop,
-        requires slope { S.Storage.sound slope }
-        requires interflow { I.Storage.sound interflow }
-        requires groundwater { G.Storage.sound groundwater }
-        ensures made { Answers (segment_limits S.Storage I.Storage G.Storage (bare card slope interflow groundwater)) result (λ s. Whole S.Storage I.Storage G.Storage s × (s ≡ bare card slope interflow groundwater)) (Unit {0}) }
+        ensures made { Answers (segment_limits (S.Storage.holds slope + I.Storage.holds interflow + G.Storage.holds groundwater) (least_of (S.Storage.limit slope) (I.Storage.limit interflow) (G.Storage.limit groundwater))) result (λ s. Bare S.Storage I.Storage G.Storage card slope interflow groundwater s) (Unit {0}) }
         ensures laws { HourLaws }
     {
-        dry_land(card, slope, interflow, groundwater)
+        Segment::dry_land(card, slope, interflow, groundwater)
     }
-}
 
-// Dry land, if the contents of its storages fit its ceiling.
-fn dry_land<S: Storage + Drop, I: Storage + Drop, G: Storage + Drop>(
-    card: Card,
-    slope: S,
-    interflow: I,
-    groundwater: G,
-) -> Result<Segment<S, I, G>, Refusal>
-    requires slope { S.Storage.sound slope }
-    requires interflow { I.Storage.sound interflow }
-    requires groundwater { G.Storage.sound groundwater }
-    ensures { Answers (segment_limits S.Storage I.Storage G.Storage (bare card slope interflow groundwater)) result (λ s. Whole S.Storage I.Storage G.Storage s × (s ≡ bare card slope interflow groundwater)) (Unit {0}) }
-{
-    let ceiling = least_of(slope.ceiling(), interflow.ceiling(), groundwater.ceiling());
-    if slope.content() + interflow.content() + groundwater.content() > ceiling {
-        return Err(Refusal::JoinedContents);
+    // Bare land, if the contents of its storages fit its ceiling.
+    fn dry_land(
+        card: Card,
+        slope: S,
+        interflow: I,
+        groundwater: G,
+    ) -> Result<Segment<S, I, G>, Refusal>
+    where
+        S: Drop,
+        I: Drop,
+        G: Drop,
+        ensures { Answers (segment_limits (S.Storage.holds slope + I.Storage.holds interflow + G.Storage.holds groundwater) (least_of (S.Storage.limit slope) (I.Storage.limit interflow) (G.Storage.limit groundwater))) result (λ s. Bare S.Storage I.Storage G.Storage card slope interflow groundwater s) (Unit {0}) }
+    {
+        let ceiling = least_of(slope.ceiling(), interflow.ceiling(), groundwater.ceiling());
+        if slope.content() + interflow.content() + groundwater.content() > ceiling {
+            return Err(Refusal::JoinedContents);
+        }
+        Ok(Segment {
+            card,
+            zones: Zones::default(),
+            slope,
+            interflow,
+            groundwater,
+        })
     }
-    let zones = Zones {
-        interception: 0,
-        upper: 0,
-        lower: 0,
-    };
-    Ok(Segment {
-        card,
-        zones,
-        slope,
-        interflow,
-        groundwater,
-    })
 }
 
 // The ceiling over three storages: the least of theirs and 10^8.
 fn least_of(slope: u64, interflow: u64, groundwater: u64) -> u64
-    ensures { result ≡ min (min (min slope interflow) groundwater) 100000000 }
+    ensures { result ≡ least_of slope interflow groundwater }
 {
     slope.min(interflow).min(groundwater).min(100_000_000)
 }
 
 impl<S: Storage, I: Storage, G: Storage> Storage for Segment<S, I, G> {
-    ghost sound = { λ s. Whole S.Storage I.Storage G.Storage s };
+    ghost use Rattle.land.specs.Segments.{Hours, six, least};
 
     ghost holds = { λ s. six S.Storage I.Storage G.Storage s };
 

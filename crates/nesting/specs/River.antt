@@ -21,11 +21,11 @@ use Rattle.delay.specs.contracts.delay.DelayStorage.TheImpl as delay
 use Rattle.delay.specs.contracts.delay.DelayTapped.TheImpl as delay_tap
 use Rattle.delay.specs.declared.delay.Delay.{Delay}
 
-abbrev pub reaches : storage.Ghosts (Chain Recession Recession)
+abbrev pub reaches : storage.Ghosts (Chain Recession Recession recession.ghosts recession.ghosts)
 reaches = chaining recession.ghosts recession.ghosts
 
 abbrev pub RiverOf : Type 0
-RiverOf = Leak (Chain (Chain Recession Recession) Delay) (chaining reaches delay.ghosts)
+RiverOf = Leak (Chain (Chain Recession Recession recession.ghosts recession.ghosts) Delay reaches delay.ghosts) (chaining reaches delay.ghosts)
 
 abbrev pub river_means : storage.Ghosts RiverOf
 river_means = leaking (chaining reaches delay.ghosts)
@@ -40,10 +40,9 @@ river_limits upper lower ws loss ceiling =
 
 -- an empty river of these figures
 pub record NewRiver (u l : ℕ) (ws : List ℕ) (f m : ℕ) (s : RiverOf) : Type 0 where
-  pub sound : river_means.sound s
   pub content : river_means.holds s ≡ 0
   pub ceiling : river_means.limit s ≡ m
-  pub upper : s.below.above.above.rate ≡ u
-  pub lower : s.below.above.below.rate ≡ l
+  pub upper : s.below.above.above.rate.parts ≡ u
+  pub lower : s.below.above.below.rate.parts ≡ l
   pub weights : s.below.below.weights ≡ padded ws
-  pub loss : s.loss ≡ f
+  pub loss : s.loss.parts ≡ f

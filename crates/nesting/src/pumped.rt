@@ -14,9 +14,7 @@ pub fn hour_and_draw<C: Tapped>(
     inflow: u64,
     amount: u64,
 ) -> Result<(u64, u64, u64), Refusal>
-    requires { C.Storage.sound channel.old }
-    ensures sound { C.Storage.sound channel.new }
-    ensures answers { Answers (step_limits (C.Storage.holds channel.old) (C.Storage.limit channel.old) inflow) result (λ o. Pumped C.Storage C.Tapped.own channel.old inflow amount o channel.new) (channel.new ≡ channel.old) }
+    ensures { Answers (step_limits (C.Storage.holds channel.old) (C.Storage.limit channel.old) inflow) result (λ o. Pumped C.Storage C.Tapped.own channel.old inflow amount o channel.new) (channel.new ≡ channel.old) }
 {
     let (release, _evaporated, deep) = channel.step(inflow, 0)?;
     let drawn = amount.min(channel.content());

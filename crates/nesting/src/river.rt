@@ -32,9 +32,7 @@ pub fn new_river(
 
 // An hour of a river and then a draw, as of any tapped storage.
 pub fn pump(river: &mut River, inflow: u64, amount: u64) -> Result<(u64, u64, u64), Refusal>
-    requires { river_means.sound river.old }
-    ensures sound { river_means.sound river.new }
-    ensures answers { Answers (step_limits (river_means.holds river.old) (river_means.limit river.old) inflow) result (λ o. Pumped river_means river_tap river.old inflow amount o river.new) (river.new ≡ river.old) }
+    ensures { Answers (step_limits (river_means.holds river.old) (river_means.limit river.old) inflow) result (λ o. Pumped river_means river_tap river.old inflow amount o river.new) (river.new ≡ river.old) }
 {
     hour_and_draw(river, inflow, amount)
 }

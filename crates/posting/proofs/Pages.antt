@@ -1,5 +1,5 @@
 -- A line written into a part of a page, and the part of a block that is a record.
-use Rattle.std.proofs.Common.{◌≡◌, ℕ, ◌+◌, ◌-◌, ◌*◌, ◌≤◌, min, List, ◌++◌, length, take, drop, Ok, Err, Result, sym, ap, ◌∙◌, ⊎_elim, append_assoc, arith, length-append, length-drop, length-take, MatchResult}
+use Rattle.std.proofs.Common.{◌≡◌, ℕ, ◌+◌, ◌-◌, ◌≤◌, min, List, [], ◌∷◌, ◌++◌, length, take, drop, Ok, Err, Result, sym, refl, ap, ◌∙◌, ⊎_elim, append_assoc, arith, length-append, length-drop, length-take, MatchResult}
 use borrow.Rule.Slice.PartMut.{put_mid}
 use Rattle.std.proofs.lemmas.List.{append-nil, drop_all, drop-drop, take_all, take_at, drop_at, take_rest}
 use Rattle.std.proofs.lemmas.Bool.{cases_lt}
@@ -18,7 +18,6 @@ use Rattle.feed.specs.declared.Event.TheVariants as event
 use Rattle.lines.specs.declared.Line.{Line}
 use Rattle.lines.specs.declared.Line.TheVariants as line
 use Rattle.posting.specs.Posting.{Answered, Posts, Posted}
-use Rattle.posting.specs.Feeds.{record_at}
 
 -- a line put over the front of what a page has from `at` on
 module _ (page buf line : List ℕ) (at k : ℕ) (room : at ≤ length page) (long : k ≡ length line)
@@ -39,13 +38,20 @@ module _ (page buf line : List ℕ) (at k : ℕ) (room : at ≤ length page) (lo
   pub written_rest : drop (at + k) (put_mid at (length page - at) page buf) ≡ drop (at + k) page
   written_rest = ap (drop (at + k)) whole ∙ drop_at (take at page ++ line) (drop (at + k) page) (at + k) size
 
--- the part of a block from 16 × i to its end or sixteen bytes on is its record i
-pub part_record : (block : List ℕ) (i to : ℕ) → to ≡ min (length block) (16 * i + 16) → take (to - 16 * i) (drop (16 * i) block) ≡ record_at block i
-part_record block i to e = ⊎_elim
-    (λ l. let z : to - 16 * i ≡ length block - 16 * i = omega arith in
-    ap (λ (n : ℕ). take n (drop (16 * i) block)) z ∙ take_rest block (16 * i) ∙ sym (take_all 16 (drop (16 * i) block) (simp length-drop (omega arith))))
-    (λ l. let z : to - 16 * i ≡ 16 = omega arith in ap (λ (n : ℕ). take n (drop (16 * i) block)) z)
-    (cases_lt (length block) (16 * i + 16))
+empty : (xs : List ℕ) → length xs ≡ 0 → xs ≡ []
+empty [] e = refl
+empty (x ∷ xs) e = absurd (omega arith)
+
+-- the first piece of what is left, at most n long, and what is left behind it
+pub cut_front : (n : ℕ) (rest piece behind : List ℕ) → rest ≡ piece ++ behind → length piece ≡ min n (length rest) → (piece ≡ take n rest) × (behind ≡ drop n rest)
+cut_front n rest piece behind e l =
+    let s : length rest ≡ length piece + length behind = ap length e ∙ length-append piece behind in
+    ⊎_elim
+    (λ h.
+    let nil : behind ≡ [] = empty behind (omega arith) in
+    (sym (append-nil piece) ∙ ap (λ (x : List ℕ). piece ++ x) (sym nil) ∙ sym e ∙ sym (take_all n rest (omega arith)), nil ∙ sym (drop_all n rest (omega arith))))
+    (λ h. (sym (take_at piece behind n (omega arith)) ∙ ap (take n) (sym e), sym (drop_at piece behind n (omega arith)) ∙ ap (drop n) (sym e)))
+    (cases_lt (length rest) n)
 
 -- what was done, by less of what it did
 answered : (P Q : Entry → Type 0) → ((e : Entry) → P e → Q e) → (ev : Event) (l : Line) → Answered P ev l → Answered Q ev l
@@ -58,7 +64,7 @@ read (Ok ev) P Q R S l f g h = answered P Q f ev l h
 read (Err e) P Q R S l f g h = g e h
 
 -- a posting, by what can be seen of the basin
-pub seen : {B C : Type 0} (G : bank.Ghosts B) (S : storage.Ghosts C) (T : tapped.Ghosts C) (b : Basin B C) (bytes : List ℕ) (l : Line) (c : Basin B C) → Posts G S T b bytes l c → Posted (view G S b) bytes l (view G S c)
+pub seen : {B C : Type 0} (G : bank.Ghosts B) (S : storage.Ghosts C) (T : tapped.Ghosts C) (b : Basin B C G S) (bytes : List ℕ) (l : Line) (c : Basin B C G S) → Posts G S T b bytes l c → Posted (view G S b) bytes l (view G S c)
 seen G S T b bytes l c h =
     let did : Entry → Type 0 = λ e. Called (view G S b) e (view G S c) × Moved G S T b e c in
     let told : Refusal → Type 0 = λ f. (l ≡ line.Refused (notice_of f)) × (c ≡ b) in

@@ -4,12 +4,11 @@ use Rattle.basin.specs.Law.{View}
 use Rattle.lines.specs.Text.{text}
 use Rattle.lines.specs.declared.Line.{Line}
 use Rattle.posting.specs.Posting.{Posted}
-use Rattle.posting.specs.Feeds.{record_at}
 
--- record i of a block takes a basin from one view to another; its line, of n bytes, stands from `at` on, and the rest is as it was
-pub record Put (v : View) (block : List ℕ) (i : ℕ) (old : List ℕ) (at n : ℕ) (new : List ℕ) (w : View) : Type 0 where
+-- a record takes a basin from one view to another; its line, of n bytes, stands from `at` on, and the rest is as it was
+pub record Put (v : View) (bytes old : List ℕ) (at n : ℕ) (new : List ℕ) (w : View) : Type 0 where
   pub told : Line
-  pub posted : Posted v (record_at block i) told w
+  pub posted : Posted v bytes told w
   pub size : n ≡ length (text told)
   pub fits : n ≤ 192
   pub front : take (at + n) new ≡ take at old ++ text told

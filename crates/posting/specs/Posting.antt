@@ -35,13 +35,13 @@ Answered Did event.Turn l = (flow : ℕ) × (deep : ℕ) × Did (by_turn flow de
 Answered Did event.Closing l = (b : Book) × Did (by_closing b) × (l ≡ line.Closing b)
 
 -- a record that cannot be read is refused, and nothing happens
-abbrev pub Posts : {B C : Type 0} → bank.Ghosts B → storage.Ghosts C → tapped.Ghosts C → Basin B C → List ℕ → Line → Basin B C → Type 0
+abbrev pub Posts : {B C : Type 0} → (G : bank.Ghosts B) → (S : storage.Ghosts C) → tapped.Ghosts C → Basin B C G S → List ℕ → Line → Basin B C G S → Type 0
 Posts G S T b bytes l c = MatchResult (reading bytes) (λ ev. Answered (λ e. Called (view G S b) e (view G S c) × Moved G S T b e c) ev l) (λ f. (l ≡ line.Refused (notice_of f)) × (c ≡ b))
 
 abbrev pub Posted : View → List ℕ → Line → View → Type 0
 Posted v bytes l w = MatchResult (reading bytes) (λ ev. Answered (λ e. Called v e w) ev l) (λ f. (l ≡ line.Refused (notice_of f)) × (w ≡ v))
 
-pub record Written {B C : Type 0} (G : bank.Ghosts B) (S : storage.Ghosts C) (T : tapped.Ghosts C) (b : Basin B C) (bytes old : List ℕ) (n : ℕ) (new : List ℕ) (c : Basin B C) : Type 0 where
+pub record Written {B C : Type 0} (G : bank.Ghosts B) (S : storage.Ghosts C) (T : tapped.Ghosts C) (b : Basin B C G S) (bytes old : List ℕ) (n : ℕ) (new : List ℕ) (c : Basin B C G S) : Type 0 where
   pub told : Line
   pub posts : Posts G S T b bytes told c
   pub printed : Printed (text told) old n new

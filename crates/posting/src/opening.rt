@@ -2,7 +2,7 @@
 ghost use Rattle.std.specs.Prelude.{◌≡◌, IfOk};
 ghost use Rattle.std.specs.Result.{result_err};
 ghost use Rattle.basin.specs.Law.{New};
-ghost use Rattle.basin.specs.Basins.{view, Sound};
+ghost use Rattle.basin.specs.Basins.{view};
 ghost use Rattle.card.specs.Cards.{fault_of};
 ghost use Rattle.posting.specs.Cards.{lands, plots, channels, Dry, Idle, Opened, OpenedBy};
 ghost use Rattle.posting.specs.Feeds.{FeedLaw};

@@ -1,7 +1,7 @@
 // A block of records, posted one after the other onto a page of lines.
 ghost use Rattle.std.specs.Prelude.{◌≡◌, ℕ, ◌+◌, ◌*◌, ◌<◌, ◌≤◌, ◌++◌, length};
 ghost use Rattle.refusals.specs.Limits.{Answers};
-ghost use Rattle.basin.specs.Basins.{view, Sound};
+ghost use Rattle.basin.specs.Basins.{view};
 ghost use Rattle.posting.specs.Feeds.{count as count_of, page_limits, Filled};
 ghost use Rattle.posting.specs.Pages.{Put};
 
@@ -15,26 +15,20 @@ const RECORD: usize = 16;
 
 const ROOM: usize = 192;
 
-// Posts record i of a block; its line stands from `at` on, and its length is the answer.
+// Posts a record; its line stands from `at` on, and its length is the answer.
 fn post_at<B: Bank, C: Tapped>(
     basin: &mut Basin<B, C>,
-    block: &[u8],
-    i: usize,
+    bytes: &[u8],
     page: &mut [u8],
     at: usize,
 ) -> usize
-    requires sound { Sound B.Bank C.Storage basin.old }
-    requires there { 16 * i < length block.now }
-    requires room { at + 192 ≤ length page.old }
-    ensures sound { Sound B.Bank C.Storage basin.new }
-    ensures put { Put (view B.Bank C.Storage basin.old) block.now i page.old at result page.new (view B.Bank C.Storage basin.new) }
+    requires { at + 192 ≤ length page.old }
+    ensures { Put (view B.Bank C.Storage basin.old) bytes.now page.old at result page.new (view B.Bank C.Storage basin.new) }
 {
-    let from = RECORD * i;
-    let to = block.len().min(from + RECORD);
-    match post(basin, &block[from..to], &mut page[at..]) {
-        Ok(size) => size,
-        Err(_) => unreachable(),
-    }
+    let Ok(size) = post(basin, bytes, &mut page[at..]) else {
+        unreachable()
+    };
+    size
 }
 
 // Posts every record of a block, and answers how many bytes of lines stand at the front of the page. The last record may be short.
@@ -44,17 +38,14 @@ pub fn post_block<B: Bank, C: Tapped>(
     block: &[u8],
     page: &mut [u8],
 ) -> Result<usize, Refusal>
-    requires { Sound B.Bank C.Storage basin.old }
-    ensures sound { Sound B.Bank C.Storage basin.new }
-    ensures filled { Answers (page_limits block.now page.old) result (λ n. Filled (view B.Bank C.Storage basin.old) block.now page.old n page.new (view B.Bank C.Storage basin.new)) ((basin.new ≡ basin.old) × (page.new ≡ page.old)) }
+    ensures { Answers (page_limits block.now page.old) result (λ n. Filled (view B.Bank C.Storage basin.old) block.now page.old n page.new (view B.Bank C.Storage basin.new)) ((basin.new ≡ basin.old) × (page.new ≡ page.old)) }
 {
-    let count = block.len().div_ceil(RECORD);
-    if page.len() / ROOM < count {
+    if page.len() / ROOM < block.len().div_ceil(RECORD) {
         return Err(Refusal::ShortBuffer);
     }
     let mut at = 0;
-    for i in 0..count {
-        at += post_at(basin, block, i, page, at);
+    for record in block.chunks(RECORD) {
+        at += post_at(basin, record, page, at);
     }
     Ok(at)
 }

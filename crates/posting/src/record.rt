@@ -2,7 +2,7 @@
 ghost use Rattle.std.specs.Prelude.{◌≡◌, length};
 ghost use Rattle.refusals.specs.Limits.{Answers};
 ghost use Rattle.lines.specs.Text.{text, buffer_limits, Printed};
-ghost use Rattle.basin.specs.Basins.{view, Sound};
+ghost use Rattle.basin.specs.Basins.{view};
 ghost use Rattle.posting.specs.Posting.{Posts, Posted, Written};
 
 use banks::Bank;
@@ -14,9 +14,7 @@ use storages::{Storage, Tapped};
 
 // Makes the call that a record asks for, and answers the line of what came of it.
 fn answer<B: Bank, C: Tapped>(basin: &mut Basin<B, C>, bytes: &[u8]) -> Line
-    requires { Sound B.Bank C.Storage basin.old }
-    ensures sound { Sound B.Bank C.Storage basin.new }
-    ensures posts { Posts B.Bank C.Storage C.Tapped.own basin.old bytes.now result basin.new }
+    ensures { Posts B.Bank C.Storage C.Tapped.own basin.old bytes.now result basin.new }
 {
     match feed::read(bytes) {
         Ok(
@@ -50,9 +48,7 @@ pub fn post<B: Bank, C: Tapped>(
     bytes: &[u8],
     out: &mut [u8],
 ) -> Result<usize, Refusal>
-    requires { Sound B.Bank C.Storage basin.old }
-    ensures sound { Sound B.Bank C.Storage basin.new }
-    ensures written { Answers (buffer_limits (length out.old)) result (λ n. Written B.Bank C.Storage C.Tapped.own basin.old bytes.now out.old n out.new basin.new) ((basin.new ≡ basin.old) × (out.new ≡ out.old)) }
+    ensures { Answers (buffer_limits (length out.old)) result (λ n. Written B.Bank C.Storage C.Tapped.own basin.old bytes.now out.old n out.new basin.new) ((basin.new ≡ basin.old) × (out.new ≡ out.old)) }
 {
     if out.len() < 192 {
         return Err(Refusal::ShortBuffer);

@@ -1,7 +1,6 @@
 // A chain: one storage above another, which it feeds.
-ghost use Rattle.std.specs.Prelude.{◌≡◌};
+ghost use Rattle.std.specs.Prelude.{◌≡◌, ◌+◌, ◌≤◌, min};
 ghost use Rattle.refusals.specs.Limits.{Answers};
-ghost use Rattle.storages.specs.Chain.{chain_limits, both, lesser, Linked, Chained, ChainDrawn};
 ghost use Rattle.std.proofs.Common.{rules};
 
 use crate::hour::hour;
@@ -12,17 +11,18 @@ use refusals::Refusal;
 pub struct Chain<A: Storage, B: Storage> {
     above: A,
     below: B,
+    ghost room: { A.Storage.holds above + B.Storage.holds below ≤ min (A.Storage.limit above) (B.Storage.limit below) },
 }
 
 impl<A: Storage, B: Storage> Chain<A, B> {
+    ghost use Rattle.storages.specs.Chain.{chain_limits};
+
     // A chain of two storages, which keep what they hold; a refusal gives both up.
     pub fn new(above: A, below: B) -> Result<Chain<A, B>, Refusal>
     where
         A: Drop,
         B: Drop,
-        requires above { A.Storage.sound above }
-        requires below { B.Storage.sound below }
-        ensures { Answers (chain_limits (A.Storage.holds above) (B.Storage.holds below) (A.Storage.limit above) (B.Storage.limit below)) result (λ s. (s.above ≡ above) × (s.below ≡ below) × Linked A.Storage B.Storage s) (Unit {0}) }
+        ensures { Answers (chain_limits (A.Storage.holds above) (B.Storage.holds below) (A.Storage.limit above) (B.Storage.limit below)) result (λ s. (s.above ≡ above) × (s.below ≡ below)) (Unit {0}) }
     {
         if above.content() + below.content() > above.ceiling().min(below.ceiling()) {
             return Err(Refusal::JoinedContents);
@@ -32,7 +32,7 @@ impl<A: Storage, B: Storage> Chain<A, B> {
 }
 
 impl<A: Storage, B: Storage> Storage for Chain<A, B> {
-    ghost sound = { λ s. Linked A.Storage B.Storage s };
+    ghost use Rattle.storages.specs.Chain.{both, lesser, Chained};
 
     ghost holds = { λ s. both A.Storage B.Storage s };
 
@@ -65,6 +65,8 @@ impl<A: Storage, B: Storage> Storage for Chain<A, B> {
 }
 
 impl<A: Tapped, B: Tapped> Tapped for Chain<A, B> {
+    ghost use Rattle.storages.specs.Chain.{ChainDrawn};
+
     ghost draws = { λ s n t. ChainDrawn A.Storage B.Storage A.Tapped.own B.Tapped.own s n t };
 
     ghost drawn = { Prim.search rules };

@@ -12,8 +12,6 @@ pub fn hour<A: Storage>(
     inflow: u64,
     demand: u64,
 ) -> Result<(u64, u64, u64), Refusal>
-    requires { A.Storage.sound storage.old }
-    ensures sound { A.Storage.sound storage.new }
     ensures bounded { A.Storage.limit storage.old ≤ top }
     ensures answers { Answers (step_limits (A.Storage.holds storage.old) (A.Storage.limit storage.old) inflow) result (λ o. A.Storage.steps storage.old inflow demand o storage.new × Stepped (A.Storage.holds storage.old) (A.Storage.limit storage.old) inflow demand o (A.Storage.holds storage.new) (A.Storage.limit storage.new)) (storage.new ≡ storage.old) }
 {

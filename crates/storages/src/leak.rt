@@ -7,14 +7,14 @@ ghost use Rattle.storages.specs.Balances.{leak_stepped};
 ghost use Rattle.std.proofs.Common.{rules};
 
 use crate::meaning::{Storage, Tapped};
-use crate::parts::part;
+use figures::fraction::Fraction;
 use refusals::Refusal;
 
 #[derive(Drop)]
 pub struct Leak<A: Storage> {
-    loss: u64,
+    loss: Fraction,
     below: A,
-    ghost most: { loss ≤ 524288 },
+    ghost most: { loss.parts ≤ 524288 },
 }
 
 impl<A: Storage> Leak<A> {
@@ -22,34 +22,34 @@ impl<A: Storage> Leak<A> {
     pub fn new(loss: u64, below: A) -> Result<Leak<A>, Refusal>
     where
         A: Drop,
-        requires { A.Storage.sound below }
-        ensures { Answers (leak_limits loss) result (λ s. (s.loss ≡ loss) × (s.below ≡ below) × A.Storage.sound s.below) (Unit {0}) }
+        ensures { Answers (leak_limits loss) result (λ s. (s.loss.parts ≡ loss) × (s.below ≡ below)) (Unit {0}) }
     {
         if loss > 524_288 {
             return Err(Refusal::StorageFigure);
         }
-        Ok(Leak { loss, below })
+        Ok(Leak {
+            loss: Fraction { parts: loss },
+            below,
+        })
     }
 }
 
 impl<A: Storage> Storage for Leak<A> {
-    ghost sound = { λ s. A.Storage.sound s.below };
-
     ghost holds = { λ s. A.Storage.holds s.below };
 
     ghost limit = { λ s. A.Storage.limit s.below };
 
-    ghost steps = { λ s i d o t. Leaks A.Storage s.loss s.below i d o t.below × (t.loss ≡ s.loss) };
+    ghost steps = { λ s i d o t. Leaks A.Storage s.loss.parts s.below i d o t.below × (t.loss ≡ s.loss) };
 
     ghost within = { Prim.search rules };
 
     ghost bounded = { Prim.search rules };
 
     // a leak's step means what a step means, since the step below does
-    ghost stepped = { λ s t i d o sound steps.
+    ghost stepped = { λ s t i d o steps.
         let inner = steps.0.inner in
-        let below = A.Storage.stepped s.below t.below (i - SpecsLeak.lost s.loss i) d inner sound steps.0.steps in
-        leak_stepped s.loss (A.Storage.holds s.below) (A.Storage.limit s.below) i d (A.Storage.holds t.below) (A.Storage.limit t.below) inner o s.most below steps.0.answer };
+        let below = A.Storage.stepped s.below t.below (i - SpecsLeak.lost s.loss.parts i) d inner steps.0.steps in
+        leak_stepped s.loss.parts (A.Storage.holds s.below) (A.Storage.limit s.below) i d (A.Storage.holds t.below) (A.Storage.limit t.below) inner o s.most below steps.0.answer };
 
     fn content(&self) -> u64 {
         self.below.content()
@@ -63,7 +63,7 @@ impl<A: Storage> Storage for Leak<A> {
         if inflow > self.below.ceiling() - self.below.content() {
             return Err(Refusal::StorageFull(0));
         }
-        let lost = part(self.loss, inflow);
+        let lost = self.loss.of(inflow);
         let (release, evaporated, deep) = self.below.step(inflow - lost, demand)?;
         Ok((release, evaporated, deep + lost))
     }

@@ -5,7 +5,6 @@ mod chain;
 pub mod hour;
 mod leak;
 mod meaning;
-mod parts;
 mod recession;
 mod slope;
 

@@ -7,9 +7,6 @@ use refusals::Refusal;
 
 // A content and a ceiling, by what an hour does to them.
 pub trait Storage {
-    // what its making gave, and every call keeps
-    ghost sound: { Self → Type 0 };
-
     // the content
     ghost holds: { Self → ℕ };
 
@@ -21,25 +18,21 @@ pub trait Storage {
 
     // The content.
     fn content(&self) -> u64
-        requires { sound self.now }
         ensures { result ≡ holds self.now };
 
     // The ceiling.
     fn ceiling(&self) -> u64
-        requires { sound self.now }
         ensures { result ≡ limit self.now };
 
     // One hour: answers release, evaporated and deep loss, or refuses as full.
     fn step(&mut self, inflow: u64, demand: u64) -> Result<(u64, u64, u64), Refusal>
-        requires { sound self.old }
-        ensures sound { sound self.new }
-        ensures answers { Answers (step_limits (holds self.old) (limit self.old) inflow) result (λ o. steps self.old inflow demand o self.new) (self.new ≡ self.old) };
+        ensures { Answers (step_limits (holds self.old) (limit self.old) inflow) result (λ o. steps self.old inflow demand o self.new) (self.new ≡ self.old) };
 
-    ghost within: { (s : Self) → sound s → holds s ≤ limit s };
+    ghost within: { (s : Self) → holds s ≤ limit s };
 
-    ghost bounded: { (s : Self) → sound s → limit s ≤ top };
+    ghost bounded: { (s : Self) → limit s ≤ top };
 
-    ghost stepped: { (s t : Self) (i d : ℕ) (o : Out) → sound s → steps s i d o t → Stepped (holds s) (limit s) i d o (holds t) (limit t) };
+    ghost stepped: { (s t : Self) (i d : ℕ) (o : Out) → steps s i d o t → Stepped (holds s) (limit s) i d o (holds t) (limit t) };
 }
 
 // A storage from which water can be drawn.
@@ -49,9 +42,7 @@ pub trait Tapped: Storage {
 
     // Takes an amount out, or refuses where the content does not cover it.
     fn draw(&mut self, amount: u64) -> Result<(), Refusal>
-        requires { Self.Storage.sound self.old }
-        ensures sound { Self.Storage.sound self.new }
-        ensures answers { Answers (draw_limits (Self.Storage.holds self.old) amount) result (λ _. draws self.old amount self.new) (self.new ≡ self.old) };
+        ensures { Answers (draw_limits (Self.Storage.holds self.old) amount) result (λ _. draws self.old amount self.new) (self.new ≡ self.old) };
 
-    ghost drawn: { (s t : Self) (n : ℕ) → Self.Storage.sound s → draws s n t → Drawn (Self.Storage.holds s) (Self.Storage.limit s) n (Self.Storage.holds t) (Self.Storage.limit t) };
+    ghost drawn: { (s t : Self) (n : ℕ) → draws s n t → Drawn (Self.Storage.holds s) (Self.Storage.limit s) n (Self.Storage.holds t) (Self.Storage.limit t) };
 }

