@@ -24,4 +24,5 @@ pub short : (n : ℕ) → n < 2 ^ 64 → length (decimal n) ≤ 20
 short n small = length-decimal-le 20 n (omega arith) (omega arith) small
 
 pub ruleset digits = (decimal_digit, decimal_two, decimal_pair, append_assoc, length-append)
+
 pub ruleset sizes = (short, length-append)

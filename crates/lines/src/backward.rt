@@ -15,14 +15,14 @@ fn digit(n: u64) -> u8
     b'0' + n as u8
 }
 
-// What stands of a line, at the end of its room.
+// What stands of a line, at the end of its room, from byte `start` on.
 #[derive(Drop)]
 struct Backward {
     start: usize,
-    room: [u8; 192],
+    room: [u8; ROOM],
 }
 
-// Clauses see the bytes that stand.
+// Clauses see the bytes that stand, the first first.
 impl Model for Backward {
     ghost Value = { List ℕ };
 
@@ -47,8 +47,9 @@ impl Backward {
         requires { length self.old < 192 }
         ensures { self.new ≡ byte ∷ self.old }
     {
-        self.start -= 1;
-        self.room[self.start] = byte;
+        let at = self.start - 1;
+        self.room[at] = byte;
+        self.start = at;
     }
 
     // Puts two digits.
@@ -87,19 +88,6 @@ impl Backward {
         self.put_byte(b' ');
     }
 
-    // Each figure after a blank, and a newline at the end.
-    fn of_figures(figures: &[u64]) -> Backward
-        requires { length figures.now ≤ 8 }
-        ensures value { result ≡ entered figures.now }
-        ensures short { length result ≤ 169 }
-    {
-        let mut line = Backward::new();
-        for figure in figures.iter().rev() {
-            line.put_figure(*figure);
-        }
-        line
-    }
-
     // Copies the line to the front of a buffer, and answers its length.
     fn copy(&self, out: &mut [u8]) -> usize
         requires { 192 ≤ length out.old }
@@ -117,7 +105,10 @@ pub(crate) fn put_line(out: &mut [u8], letter: u8, figures: &[u64]) -> usize
     requires few { length figures.now ≤ 8 }
     ensures { Printed (letter ∷ entered figures.now) out.old result out.new }
 {
-    let mut line = Backward::of_figures(figures);
+    let mut line = Backward::new();
+    for figure in figures.iter().rev() {
+        line.put_figure(*figure);
+    }
     line.put_byte(letter);
     line.copy(out)
 }

@@ -1,7 +1,7 @@
 -- The figures so far, from the last on, stand before the newline.
 use Rattle.std.proofs.Common.{◌≡◌, ◌+◌, ◌*◌, ◌≤◌, length, reverse, map}
 use Rattle.lines.specs.Text.{entered}
-use Rattle.lines.proofs.backward.Backward.of_figures.Given as goal
+use Rattle.lines.proofs.backward.put_line.Given as goal
 
 abbrev pub invariant-loop-figure : goal.invariant-loop-figure
 invariant-loop-figure l =
