@@ -13,7 +13,7 @@ use Rattle.feed.specs.Reading.{word, part, blank, rain_of, bare_of, lettered, fo
 
 then_parts : (r : Result (Unit {0}) Refusal) (s : Result Event Refusal) (e : Event) → result_and r s ≡ Ok e → (r ≡ Ok tt) × (s ≡ Ok e)
 then_parts (Ok u) s e h = (refl, h)
-then_parts (Err f) s e h = absurd (let z : ◌≡◌ {A = ℕ} 0 1 = cc in omega arith)
+then_parts (Err f) s e h = absurd (grind arith)
 
 -- a part that is blank is zeros
 zero_first : (b : ℕ) (bs : List ℕ) (k : ℕ) → b ≡ 0 → ((j : ℕ) → j < length bs → get_or bs j 0 ≡ 0) → k < length (b ∷ bs) → get_or (b ∷ bs) k 0 ≡ 0
@@ -33,18 +33,13 @@ part_zero bs at n k fits lt h =
     sym (get_or-take n (drop at bs) k 0 lt ∙ get_or-drop at bs k 0)
     ∙ blank_zero at (part at n bs) h k (simp (length-take, length-drop) (omega arith))
 
-last_byte : (n a rest : ℕ) → a < 256 → n ≡ a + rest * 256 → a ≡ n % 256
-last_byte n a rest small e = omega arith
-
 -- four bytes are those of the number that they write
 same_bytes : (a b c d : ℕ) → a < 256 → b < 256 → c < 256 → d < 256 → a ∷ b ∷ c ∷ d ∷ [] ≡ four_bytes (a + b * 256 + c * 65536 + d * 16777216)
 same_bytes a b c d la lb lc ld =
     let n = a + b * 256 + c * 65536 + d * 16777216 in
-    let ea : a ≡ n % 256 = last_byte n a (b + c * 256 + d * 65536) la (omega arith) in
-    let q : n / 256 ≡ b + c * 256 + d * 65536 = omega arith in
-    let eb : b ≡ n / 256 % 256 = last_byte (n / 256) b (c + d * 256) lb (omega arith) in
-    let p : n / 65536 ≡ c + d * 256 = omega arith in
-    let ec : c ≡ n / 65536 % 256 = last_byte (n / 65536) c d lc (omega arith) in
+    let ea : a ≡ n % 256 = omega arith in
+    let eb : b ≡ n / 256 % 256 = omega arith in
+    let ec : c ≡ n / 65536 % 256 = omega arith in
     let ed : d ≡ n / 16777216 = omega arith in
     λ i. ea i ∷ eb i ∷ ec i ∷ ed i ∷ []
 
