@@ -67,13 +67,13 @@ impl Backward {
         requires { length (decimal n) + length self.old ≤ 192 }
         ensures { self.new ≡ decimal n ++ self.old }
     {
-        if n < 10 {
-            self.put_byte(digit(n));
-        } else if n < 100 {
-            self.put_pair(n);
-        } else {
+        if n >= 100 {
             self.put_pair(n % 100);
             self.put_number(n / 100);
+        } else if n >= 10 {
+            self.put_pair(n);
+        } else {
+            self.put_byte(digit(n));
         }
     }
 
