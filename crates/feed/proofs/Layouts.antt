@@ -1,12 +1,11 @@
 -- A record that is read is laid out as its event is.
-use Rattle.std.proofs.Common.{◌≡◌, ℕ, zero, suc, ◌+◌, ◌*◌, ◌/◌, ◌%◌, ◌<◌, ◌≤◌, cond, eqb, List, [], ◌∷◌, ◌++◌, map, length, get_or, drop, replicate, IfOk, Ok, Err, Result, ◌⊎◌, inl, inr, sym, refl, ap, ◌∙◌, ⊎_elim, arith, lit<, length-drop, length-take}
+use Rattle.std.proofs.Common.{◌≡◌, ℕ, zero, suc, ◌+◌, ◌*◌, ◌/◌, ◌%◌, ◌<◌, ◌≤◌, cond, eqb, List, [], ◌∷◌, ◌++◌, map, length, get_or, drop, replicate, IfOk, Ok, Err, Result, ◌⊎◌, inl, inr, sym, refl, ap, ◌∙◌, arith, lit<, length-drop, length-take}
 use Rattle.std.specs.List.{range_with_len}
 use Rattle.std.specs.Result.{result_and}
 use Rattle.std.proofs.lemmas.List.FromFn.{fill_by_all}
 use Rattle.std.proofs.lemmas.List.{get_or-take, get_or-drop}
-use Rattle.std.proofs.lemmas.Bool.{cases_Bool, eqb-true}
 use Rattle.refusals.specs.declared.Refusal.{Refusal}
-use Rattle.refusals.specs.declared.Refusal.TheVariants.{UnknownLetter, NotZero}
+use Rattle.refusals.specs.declared.Refusal.TheVariants.{UnknownLetter}
 use Rattle.feed.specs.declared.Event.{Event}
 use Rattle.feed.specs.declared.Event.TheVariants.{Rain, Turn, Closing}
 use Rattle.feed.specs.Reading.{word, part, blank, rain_of, bare_of, lettered, four_bytes, record_of}

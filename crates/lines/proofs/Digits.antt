@@ -23,6 +23,8 @@ decimal_two n more small =
 pub short : (n : ℕ) → n < 2 ^ 64 → length (decimal n) ≤ 20
 short n small = length-decimal-le 20 n (omega arith) (omega arith) small
 
+-- by which the digits of a number are those that were put down
 pub ruleset digits = (decimal_digit, decimal_two, decimal_pair, append_assoc, length-append)
 
+-- by which a figure and its blank fit
 pub ruleset sizes = (short, length-append)
