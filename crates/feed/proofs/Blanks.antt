@@ -6,17 +6,14 @@ use Rattle.refusals.specs.declared.Refusal.{Refusal}
 use Rattle.refusals.specs.declared.Refusal.TheVariants.{NotZero}
 use Rattle.feed.specs.Reading.{blank}
 
+-- the answer, where the search for such a byte answers r
 abbrev pub refused : ℕ → Option ℕ → Result (Unit {0}) Refusal
 refused at None = Ok tt
 refused at (Some i) = Err (NotZero (at + i))
 
-byte : (t : Bool) (at i : ℕ) (r : Option ℕ) (s : Result (Unit {0}) Refusal) → refused at r ≡ s → refused at (cond (not t) (Some i) r) ≡ cond t s (Err (NotZero (at + i)))
-byte true at i r s e = e
-byte false at i r s e = refl
-
 blank_from : (at i : ℕ) (bs : List ℕ) → refused at (position_from (λ b. not (eqb b 0)) i bs) ≡ blank (at + i) bs
 blank_from at i [] = refl
-blank_from at i (b ∷ bs) = byte (eqb b 0) at i (position_from (λ b. not (eqb b 0)) (i + 1) bs) (blank (at + i + 1) bs) (blank_from at (i + 1) bs ∙ ap (λ (k : ℕ). blank k bs) (omega arith))
+blank_from at i (b ∷ bs) = grind (arith, blank_from at (i + 1) bs)
 
 pub blank_at : (at : ℕ) (bs : List ℕ) → refused at (position (λ b. not (eqb b 0)) bs) ≡ blank at bs
 blank_at at bs =
