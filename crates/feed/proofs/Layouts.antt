@@ -1,9 +1,10 @@
 -- A record that is read is laid out as its event is.
-use Rattle.std.proofs.Common.{◌≡◌, ℕ, zero, suc, ◌+◌, ◌*◌, ◌/◌, ◌%◌, ◌<◌, ◌≤◌, cond, eqb, List, [], ◌∷◌, ◌++◌, map, length, get_or, drop, replicate, IfOk, Ok, Err, Result, ◌⊎◌, inl, inr, sym, refl, ap, ◌∙◌, arith, lit<, length-drop, length-take}
+use Rattle.std.proofs.Common.{◌≡◌, ℕ, ◌+◌, ◌*◌, ◌/◌, ◌%◌, ◌<◌, ◌≤◌, cond, eqb, List, [], ◌∷◌, ◌++◌, map, length, get_or, drop, replicate, IfOk, Ok, Err, Result, ◌⊎◌, inl, inr, sym, refl, ap, ◌∙◌, arith, lit<, length-drop, length-take}
 use Rattle.std.specs.List.{range_with_len}
 use Rattle.std.specs.Result.{result_and}
 use Rattle.std.proofs.lemmas.List.FromFn.{fill_by_all}
-use Rattle.std.proofs.lemmas.List.{get_or-take, get_or-drop}
+use Rattle.std.proofs.lemmas.List.{get_or-take, get_or-drop, get_or-replicate, drop_more}
+use Rattle.std.proofs.lemmas.Grind.{common_steps}
 use Rattle.refusals.specs.declared.Refusal.{Refusal}
 use Rattle.refusals.specs.declared.Refusal.TheVariants.{UnknownLetter}
 use Rattle.feed.specs.declared.Event.{Event}
@@ -15,10 +16,12 @@ then_parts (Ok u) s e h = (refl, h)
 then_parts (Err f) s e h = absurd (grind arith)
 
 -- a part that is blank is zeros
+blank_zeros : (at : ℕ) (bs : List ℕ) → blank at bs ≡ Ok tt → bs ≡ replicate (length bs) 0
+blank_zeros at [] h = refl
+blank_zeros at (b ∷ bs) h = grind (arith, common_steps, blank_zeros (at + 1) bs)
+
 blank_zero : (at : ℕ) (bs : List ℕ) → blank at bs ≡ Ok tt → (k : ℕ) → k < length bs → get_or bs k 0 ≡ 0
-blank_zero at [] h k lt = absurd (omega arith)
-blank_zero at (b ∷ bs) h zero lt = grind arith
-blank_zero at (b ∷ bs) h (suc k) lt = grind (arith, blank_zero (at + 1) bs)
+blank_zero at bs h k lt = ap (λ (xs : List ℕ). get_or xs k 0) (blank_zeros at bs h) ∙ get_or-replicate (length bs) k 0 0 lt
 
 part_zero : (bs : List ℕ) (at n k : ℕ) → at + n ≤ length bs → k < n → blank at (part at n bs) ≡ Ok tt → get_or bs (at + k) 0 ≡ 0
 part_zero bs at n k fits lt h =
@@ -47,10 +50,11 @@ module _ (bs : List ℕ) (size : length bs ≡ 16) (bytes : (k : ℕ) → get_or
   bare_layout : (x e : Event) (l : ℕ) → get_or bs 0 0 ≡ l → bare_of x bs ≡ Ok e → (x ≡ e) × (bs ≡ l ∷ replicate 15 0)
   bare_layout x e l first h =
       let p = then_parts (blank 1 (drop 1 bs)) (Ok x) e h in
-      let z : (k : ℕ) → k < 15 → get_or bs (1 + k) 0 ≡ 0 = λ k lt. sym (get_or-drop 1 bs k 0) ∙ blank_zero 1 (drop 1 bs) p.0 k (simp length-drop (omega arith)) in
+      let long : length (drop 1 bs) ≡ 15 = simp length-drop (omega arith) in
+      let zeros : drop 1 bs ≡ replicate 15 0 = blank_zeros 1 (drop 1 bs) p.0 ∙ ap (λ n. replicate n 0) long in
       let same : Ok x ≡ Ok e = p.1 in
       let y : x ≡ e = cc in
-      (y, sixteen ∙ (λ i. first i ∷ z 0 (lit< tt) i ∷ z 1 (lit< tt) i ∷ z 2 (lit< tt) i ∷ z 3 (lit< tt) i ∷ z 4 (lit< tt) i ∷ z 5 (lit< tt) i ∷ z 6 (lit< tt) i ∷ z 7 (lit< tt) i ∷ z 8 (lit< tt) i ∷ z 9 (lit< tt) i ∷ z 10 (lit< tt) i ∷ z 11 (lit< tt) i ∷ z 12 (lit< tt) i ∷ z 13 (lit< tt) i ∷ z 14 (lit< tt) i ∷ []))
+      (y, drop_more bs 0 0 (omega arith) ∙ (λ i. first i ∷ zeros i))
 
   rain_layout : (e : Event) → get_or bs 0 0 ≡ 82 → rain_of bs ≡ Ok e → bs ≡ record_of e
   rain_layout e first h =
