@@ -3,7 +3,7 @@
 
 ghost use Rattle.std.specs.Prelude.{◌≡◌, ℕ, length};
 
-use crate::packed::Packed;
+use crate::packed::{Case, Packed};
 use banks::Bank;
 use basin::Basin;
 use lines::Line;
@@ -50,13 +50,9 @@ fn case_agrees(card: &[u8], feed: &[u8], lines: &[u8]) -> bool {
 
 // Tries every case, and answers how many there were and how many differed.
 fn try_all(data: &[u8]) -> (u64, u64) {
-    let mut packed = Packed::new(data);
     let mut cases = 0u64;
     let mut differing = 0u64;
-    for _ in 0..data.len() {
-        let Some((card, feed, lines)) = packed.next_case() else {
-            break;
-        };
+    for Case { card, feed, lines } in Packed::new(data) {
         cases = cases.saturating_add(1);
         if !case_agrees(card, feed, lines) {
             differing = differing.saturating_add(1);

@@ -1,4 +1,14 @@
 // Cases packed one behind the other: three lengths of four bytes, then card, feed and lines.
+ghost use Rattle.std.specs.Prelude.{◌≡◌, ◌+◌, length, IfSome};
+ghost use Rattle.std.specs.Iterator.{at_most};
+
+// A case: its card, its feed and the lines expected.
+#[derive(Clone, Copy)]
+pub struct Case<'a> {
+    pub card: &'a [u8],
+    pub feed: &'a [u8],
+    pub lines: &'a [u8],
+}
 
 // What is left of the packed cases.
 #[derive(Drop)]
@@ -12,28 +22,38 @@ impl<'a> Packed<'a> {
     }
 
     // The next so many bytes, if there are as many.
-    fn take(&mut self, size: usize) -> Option<&'a [u8]> {
-        if size > self.rest.len() {
-            return None;
-        }
-        let (front, rest) = self.rest.split_at(size);
+    fn take(&mut self, size: usize) -> Option<&'a [u8]>
+        ensures { IfSome result (λ front. length front.now + length self.new.rest.now ≡ length self.old.rest.now) }
+    {
+        let (front, rest) = self.rest.split_at_checked(size)?;
         self.rest = rest;
         Some(front)
     }
 
     // A length of four bytes, the least first.
-    fn length(&mut self) -> Option<usize> {
-        let [a, b, c, d] = self.take(4)? else {
-            return None;
-        };
-        Some(u32::from_le_bytes([*a, *b, *c, *d]) as usize)
+    fn length(&mut self) -> Option<usize>
+        ensures { IfSome result (λ _. 4 + length self.new.rest.now ≡ length self.old.rest.now) }
+    {
+        let (bytes, rest) = self.rest.split_first_chunk()?;
+        self.rest = rest;
+        Some(u32::from_le_bytes(*bytes) as usize)
     }
+}
 
-    // The next case: its card, its feed and the lines expected.
-    pub fn next_case(&mut self) -> Option<(&'a [u8], &'a [u8], &'a [u8])> {
+impl<'a> Iterator for Packed<'a> {
+    type Item = Case<'a>;
+
+    // Each case takes at least its lengths.
+    ghost remaining = { λ s. at_most (length s.rest.now) };
+
+    fn next(&mut self) -> Option<Case<'a>> {
         let card = self.length()?;
         let feed = self.length()?;
         let lines = self.length()?;
-        Some((self.take(card)?, self.take(feed)?, self.take(lines)?))
+        Some(Case {
+            card: self.take(card)?,
+            feed: self.take(feed)?,
+            lines: self.take(lines)?,
+        })
     }
 }

@@ -1,19 +1,22 @@
--- The search for a byte that is not zero, one step on and at the end.
-use Rattle.std.proofs.Common.{◌≡◌, ℕ, ◌+◌, ◌<◌, ◌≤◌, cond, List, length, get_or, drop, Ok, Err, ap, ◌∙◌, add_assoc}
-use Rattle.std.proofs.lemmas.List.{at_drop_more, at_drop_all}
-use Rattle.std.proofs.lemmas.Bool.{eq-eqb, ne_eqb}
+-- A part is refused at its first byte that is not zero.
+use Rattle.std.proofs.Common.{◌≡◌, ℕ, ◌+◌, not, eqb, List, [], ◌∷◌, Option, Some, None, Ok, Err, Result, refl, ap, ◌∙◌, arith}
+use Rattle.std.specs.List.{position, position_from}
+use Rattle.std.proofs.lemmas.Iterator.Adapters.{position_from-zero}
+use Rattle.refusals.specs.declared.Refusal.{Refusal}
 use Rattle.refusals.specs.declared.Refusal.TheVariants.{NotZero}
 use Rattle.feed.specs.Reading.{blank}
 
-module _ (xs : List ℕ) (at i : ℕ) where
-  pub blank_here : i < length xs → (get_or xs i 0 ≡ 0 → ⊥) → blank (at + i) (drop i xs) ≡ Err (NotZero (at + i))
-  blank_here lt ne = at_drop_more (blank (at + i)) xs i 0 lt ∙ ap (λ t. cond t (blank (at + i + 1) (drop (i + 1) xs)) (Err (NotZero (at + i)))) (ne_eqb (get_or xs i 0) 0 ne)
+-- the answer, where the search for such a byte answers r
+abbrev pub refused : ℕ → Option ℕ → Result (Unit {0}) Refusal
+refused at None = Ok tt
+refused at (Some i) = Err (NotZero (at + i))
 
-  pub blank_more : i < length xs → get_or xs i 0 ≡ 0 → blank (at + i) (drop i xs) ≡ blank (at + (i + 1)) (drop (i + 1) xs)
-  blank_more lt eq =
-      at_drop_more (blank (at + i)) xs i 0 lt
-      ∙ ap (λ t. cond t (blank (at + i + 1) (drop (i + 1) xs)) (Err (NotZero (at + i)))) (eq-eqb (get_or xs i 0) 0 eq)
-      ∙ ap (λ (p : ℕ). blank p (drop (i + 1) xs)) (add_assoc at i 1)
+blank_from : (at i : ℕ) (bs : List ℕ) → refused at (position_from (λ b. not (eqb b 0)) i bs) ≡ blank (at + i) bs
+blank_from at i [] = refl
+blank_from at i (b ∷ bs) = grind (arith, blank_from at (i + 1) bs)
 
-  pub blank_all : length xs ≤ i → blank (at + i) (drop i xs) ≡ Ok tt
-  blank_all le = at_drop_all (blank (at + i)) xs i le
+pub blank_at : (at : ℕ) (bs : List ℕ) → refused at (position (λ b. not (eqb b 0)) bs) ≡ blank at bs
+blank_at at bs =
+    ap (refused at) (position_from-zero (λ b. not (eqb b 0)) bs)
+    ∙ blank_from at 0 bs
+    ∙ ap (λ (k : ℕ). blank k bs) (omega arith)

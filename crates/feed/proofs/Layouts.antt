@@ -1,50 +1,45 @@
 -- A record that is read is laid out as its event is.
-use Rattle.std.proofs.Common.{◌≡◌, ℕ, zero, suc, ◌+◌, ◌*◌, ◌/◌, ◌%◌, ◌<◌, ◌≤◌, cond, eqb, List, [], ◌∷◌, ◌++◌, map, length, get_or, drop, replicate, IfOk, Ok, Err, Result, sym, refl, ap, ◌∙◌, ⊎_elim, arith, lit<, length-drop, length-take}
+use Rattle.std.proofs.Common.{◌≡◌, ℕ, ◌+◌, ◌*◌, ◌/◌, ◌%◌, ◌<◌, ◌≤◌, cond, eqb, List, [], ◌∷◌, ◌++◌, map, length, get_or, drop, replicate, IfOk, Ok, Err, Result, ◌⊎◌, inl, inr, sym, refl, ap, ◌∙◌, arith, lit<, length-drop, length-take}
 use Rattle.std.specs.List.{range_with_len}
 use Rattle.std.specs.Result.{result_and}
 use Rattle.std.proofs.lemmas.List.FromFn.{fill_by_all}
-use Rattle.std.proofs.lemmas.List.{get_or-take, get_or-drop}
-use Rattle.std.proofs.lemmas.Bool.{cases_Bool, eqb-true}
+use Rattle.std.proofs.lemmas.List.{get_or-take, get_or-drop, get_or-replicate, drop_more}
+use Rattle.std.proofs.lemmas.Grind.{common_steps}
 use Rattle.refusals.specs.declared.Refusal.{Refusal}
-use Rattle.refusals.specs.declared.Refusal.TheVariants.{UnknownLetter, NotZero}
+use Rattle.refusals.specs.declared.Refusal.TheVariants.{UnknownLetter}
 use Rattle.feed.specs.declared.Event.{Event}
 use Rattle.feed.specs.declared.Event.TheVariants.{Rain, Turn, Closing}
 use Rattle.feed.specs.Reading.{word, part, blank, rain_of, bare_of, lettered, four_bytes, record_of}
 
 then_parts : (r : Result (Unit {0}) Refusal) (s : Result Event Refusal) (e : Event) → result_and r s ≡ Ok e → (r ≡ Ok tt) × (s ≡ Ok e)
 then_parts (Ok u) s e h = (refl, h)
-then_parts (Err f) s e h = absurd (let z : ◌≡◌ {A = ℕ} 0 1 = cc in omega arith)
+then_parts (Err f) s e h = absurd (grind arith)
 
 -- a part that is blank is zeros
-zero_first : (b : ℕ) (bs : List ℕ) (k : ℕ) → b ≡ 0 → ((j : ℕ) → j < length bs → get_or bs j 0 ≡ 0) → k < length (b ∷ bs) → get_or (b ∷ bs) k 0 ≡ 0
-zero_first b bs zero e rest lt = e
-zero_first b bs (suc j) e rest lt = rest j (omega arith)
+blank_zeros : (at : ℕ) (bs : List ℕ) → blank at bs ≡ Ok tt → bs ≡ replicate (length bs) 0
+blank_zeros at [] h = refl
+blank_zeros at (b ∷ bs) h = grind (arith, common_steps, blank_zeros (at + 1) bs)
 
 blank_zero : (at : ℕ) (bs : List ℕ) → blank at bs ≡ Ok tt → (k : ℕ) → k < length bs → get_or bs k 0 ≡ 0
-blank_zero at [] h k lt = absurd (omega arith)
-blank_zero at (b ∷ bs) h k lt =
-    ⊎_elim
-    (λ t. zero_first b bs k (eqb-true b 0 t) (blank_zero (at + 1) bs (ap (λ c. cond c (blank (at + 1) bs) (Err (NotZero at))) (sym t) ∙ h)) lt)
-    (λ t. let e : Err (NotZero at) ≡ Ok tt = ap (λ c. cond c (blank (at + 1) bs) (Err (NotZero at))) (sym t) ∙ h in absurd (let z : ◌≡◌ {A = ℕ} 0 1 = cc in omega arith))
-    (cases_Bool (eqb b 0))
+blank_zero at bs h k lt = ap (λ (xs : List ℕ). get_or xs k 0) (blank_zeros at bs h) ∙ get_or-replicate (length bs) k 0 0 lt
 
 part_zero : (bs : List ℕ) (at n k : ℕ) → at + n ≤ length bs → k < n → blank at (part at n bs) ≡ Ok tt → get_or bs (at + k) 0 ≡ 0
 part_zero bs at n k fits lt h =
     sym (get_or-take n (drop at bs) k 0 lt ∙ get_or-drop at bs k 0)
     ∙ blank_zero at (part at n bs) h k (simp (length-take, length-drop) (omega arith))
 
-last_byte : (n a rest : ℕ) → a < 256 → n ≡ a + rest * 256 → a ≡ n % 256
-last_byte n a rest small e = omega arith
+-- a record that is read has one of the three letters
+by_letter : (b : ℕ) (r t c : Result Event Refusal) (e : Event) → cond (eqb b 82) r (cond (eqb b 84) t (cond (eqb b 67) c (Err UnknownLetter))) ≡ Ok e
+    → ((b ≡ 82) × (r ≡ Ok e)) ⊎ (((b ≡ 84) × (t ≡ Ok e)) ⊎ ((b ≡ 67) × (c ≡ Ok e)))
+by_letter b r t c e h = grind arith
 
 -- four bytes are those of the number that they write
 same_bytes : (a b c d : ℕ) → a < 256 → b < 256 → c < 256 → d < 256 → a ∷ b ∷ c ∷ d ∷ [] ≡ four_bytes (a + b * 256 + c * 65536 + d * 16777216)
 same_bytes a b c d la lb lc ld =
     let n = a + b * 256 + c * 65536 + d * 16777216 in
-    let ea : a ≡ n % 256 = last_byte n a (b + c * 256 + d * 65536) la (omega arith) in
-    let q : n / 256 ≡ b + c * 256 + d * 65536 = omega arith in
-    let eb : b ≡ n / 256 % 256 = last_byte (n / 256) b (c + d * 256) lb (omega arith) in
-    let p : n / 65536 ≡ c + d * 256 = omega arith in
-    let ec : c ≡ n / 65536 % 256 = last_byte (n / 65536) c d lc (omega arith) in
+    let ea : a ≡ n % 256 = omega arith in
+    let eb : b ≡ n / 256 % 256 = omega arith in
+    let ec : c ≡ n / 65536 % 256 = omega arith in
     let ed : d ≡ n / 16777216 = omega arith in
     λ i. ea i ∷ eb i ∷ ec i ∷ ed i ∷ []
 
@@ -55,10 +50,11 @@ module _ (bs : List ℕ) (size : length bs ≡ 16) (bytes : (k : ℕ) → get_or
   bare_layout : (x e : Event) (l : ℕ) → get_or bs 0 0 ≡ l → bare_of x bs ≡ Ok e → (x ≡ e) × (bs ≡ l ∷ replicate 15 0)
   bare_layout x e l first h =
       let p = then_parts (blank 1 (drop 1 bs)) (Ok x) e h in
-      let z : (k : ℕ) → k < 15 → get_or bs (1 + k) 0 ≡ 0 = λ k lt. sym (get_or-drop 1 bs k 0) ∙ blank_zero 1 (drop 1 bs) p.0 k (simp length-drop (omega arith)) in
+      let long : length (drop 1 bs) ≡ 15 = simp length-drop (omega arith) in
+      let zeros : drop 1 bs ≡ replicate 15 0 = blank_zeros 1 (drop 1 bs) p.0 ∙ ap (λ n. replicate n 0) long in
       let same : Ok x ≡ Ok e = p.1 in
       let y : x ≡ e = cc in
-      (y, sixteen ∙ (λ i. first i ∷ z 0 (lit< tt) i ∷ z 1 (lit< tt) i ∷ z 2 (lit< tt) i ∷ z 3 (lit< tt) i ∷ z 4 (lit< tt) i ∷ z 5 (lit< tt) i ∷ z 6 (lit< tt) i ∷ z 7 (lit< tt) i ∷ z 8 (lit< tt) i ∷ z 9 (lit< tt) i ∷ z 10 (lit< tt) i ∷ z 11 (lit< tt) i ∷ z 12 (lit< tt) i ∷ z 13 (lit< tt) i ∷ z 14 (lit< tt) i ∷ []))
+      (y, drop_more bs 0 0 (omega arith) ∙ (λ i. first i ∷ zeros i))
 
   rain_layout : (e : Event) → get_or bs 0 0 ≡ 82 → rain_of bs ≡ Ok e → bs ≡ record_of e
   rain_layout e first h =
@@ -76,21 +72,11 @@ module _ (bs : List ℕ) (size : length bs ≡ 16) (bytes : (k : ℕ) → get_or
       ∙ ap record_of y
 
   lettered_layout : (e : Event) → lettered bs ≡ Ok e → bs ≡ record_of e
-  lettered_layout e h =
-      let b = get_or bs 0 0 in
-      let other : Result Event Refusal = cond (eqb b 67) (bare_of Closing bs) (Err UnknownLetter) in
-      ⊎_elim
-      (λ t. rain_layout e (eqb-true b 82 t) (ap (λ c. cond c (rain_of bs) (cond (eqb b 84) (bare_of Turn bs) other)) (sym t) ∙ h))
-      (λ f. let h₁ : cond (eqb b 84) (bare_of Turn bs) other ≡ Ok e = ap (λ c. cond c (rain_of bs) (cond (eqb b 84) (bare_of Turn bs) other)) (sym f) ∙ h in
-      ⊎_elim
-      (λ t. let q = bare_layout Turn e 84 (eqb-true b 84 t) (ap (λ c. cond c (bare_of Turn bs) other) (sym t) ∙ h₁) in q.1 ∙ ap record_of q.0)
-      (λ f₁. let h₂ : other ≡ Ok e = ap (λ c. cond c (bare_of Turn bs) other) (sym f₁) ∙ h₁ in
-      ⊎_elim
-      (λ t. let q = bare_layout Closing e 67 (eqb-true b 67 t) (ap (λ c. cond c (bare_of Closing bs) (Err UnknownLetter)) (sym t) ∙ h₂) in q.1 ∙ ap record_of q.0)
-      (λ f₂. let x : Err UnknownLetter ≡ Ok e = ap (λ c. cond c (bare_of Closing bs) (Err UnknownLetter)) (sym f₂) ∙ h₂ in absurd (let z : ◌≡◌ {A = ℕ} 0 1 = cc in omega arith))
-      (cases_Bool (eqb b 67)))
-      (cases_Bool (eqb b 84)))
-      (cases_Bool (eqb b 82))
+  lettered_layout e h = elim (by_letter (get_or bs 0 0) (rain_of bs) (bare_of Turn bs) (bare_of Closing bs) e h) [
+    | inl r ↦ rain_layout e r.0 r.1
+    | inr (inl t) ↦ let q = bare_layout Turn e 84 t.0 t.1 in q.1 ∙ ap record_of q.0
+    | inr (inr c) ↦ let q = bare_layout Closing e 67 c.0 c.1 in q.1 ∙ ap record_of q.0
+  ]
 
   pub read_layout : (r : Result Event Refusal) → r ≡ lettered bs → IfOk r (λ e. bs ≡ record_of e)
   read_layout (Ok e) h = lettered_layout e (sym h)

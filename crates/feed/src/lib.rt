@@ -1,7 +1,7 @@
 // The feed: records of sixteen bytes, each read as an event.
 #![tactic(auto)]
 
-ghost use Rattle.std.specs.Prelude.{◌≡◌, ℕ, ◌+◌, ◌≤◌, ◌∷◌, length, IfOk};
+ghost use Rattle.std.specs.Prelude.{◌≡◌, ℕ, ◌+◌, ◌≤◌, ◌∷◌, length, position, not, ◌==◌, IfOk};
 ghost use Rattle.feed.specs.Reading.{blank, word, rain_of, bare_of, lettered, reading, record_of};
 
 use refusals::Refusal;
@@ -18,44 +18,47 @@ pub enum Event {
     Closing,
 }
 
+// The place of a part's first byte that is not zero.
+fn first_nonzero(part: &[u8]) -> Option<usize>
+    ensures { result ≡ position (λ b. not (b == 0)) part.now }
+{
+    part.iter().position(|byte| *byte != 0)
+}
+
 // Refuses the first byte of a part that is not zero; the part begins at byte `at` of its record.
 fn zeros(part: &[u8], at: u64) -> Result<(), Refusal>
     requires { at + length part.now ≤ 16 }
     ensures { result ≡ blank at part.now }
 {
-    for (i, byte) in part.iter().enumerate() {
-        if *byte != 0 {
-            return Err(Refusal::NotZero(at + i as u64));
-        }
+    match first_nonzero(part) {
+        Some(i) => Err(Refusal::NotZero(at + i as u64)),
+        None => Ok(()),
     }
-    Ok(())
 }
 
-// Four bytes from `i` on, the least first.
-fn amount(bytes: &[u8], i: usize) -> u64
-    requires { i + 4 ≤ length bytes.now }
-    ensures { result ≡ word i bytes.now }
+// Four bytes, the least first.
+fn amount(bytes: [u8; 4]) -> u64
+    ensures { result ≡ word 0 bytes }
 {
-    u64::from(u32::from_le_bytes([bytes[i], bytes[i + 1], bytes[i + 2], bytes[i + 3]]))
+    u64::from(u32::from_le_bytes(bytes))
 }
 
-// Rain on a segment: `rest` is the record from byte 2 on.
-fn rain(segment: u8, rest: &[u8]) -> Result<Event, Refusal>
-    requires { length rest.now ≡ 14 }
+// Rain on a segment: `rest` is the record from byte 2 on, two zeros, the depth (d), the demand (w) and four zeros.
+fn rain(segment: u8, rest: &[u8; 14]) -> Result<Event, Refusal>
     ensures { result ≡ rain_of (0 ∷ segment ∷ rest.now) }
 {
-    zeros(&rest[0..2], 2)?;
-    zeros(&rest[10..14], 12)?;
+    let [_, _, d0, d1, d2, d3, w0, w1, w2, w3, ..] = *rest;
+    zeros(&rest[..2], 2)?;
+    zeros(&rest[10..], 12)?;
     Ok(Event::Rain {
         segment: u64::from(segment),
-        depth: amount(rest, 2),
-        demand: amount(rest, 6),
+        depth: amount([d0, d1, d2, d3]),
+        demand: amount([w0, w1, w2, w3]),
     })
 }
 
 // An event that is its letter alone.
-fn bare(event: Event, segment: u8, rest: &[u8]) -> Result<Event, Refusal>
-    requires { length rest.now ≡ 14 }
+fn bare(event: Event, segment: u8, rest: &[u8; 14]) -> Result<Event, Refusal>
     ensures { result ≡ bare_of event (0 ∷ segment ∷ rest.now) }
 {
     if segment != 0 {
@@ -66,8 +69,7 @@ fn bare(event: Event, segment: u8, rest: &[u8]) -> Result<Event, Refusal>
 }
 
 // The event that a letter stands for.
-fn by_letter(letter: u8, segment: u8, rest: &[u8]) -> Result<Event, Refusal>
-    requires { length rest.now ≡ 14 }
+fn by_letter(letter: u8, segment: u8, rest: &[u8; 14]) -> Result<Event, Refusal>
     ensures { result ≡ lettered (letter ∷ segment ∷ rest.now) }
 {
     match char::from(letter) {
@@ -78,27 +80,18 @@ fn by_letter(letter: u8, segment: u8, rest: &[u8]) -> Result<Event, Refusal>
     }
 }
 
-// A record of sixteen bytes, taken apart.
-fn event_of(bytes: &[u8]) -> Result<Event, Refusal>
-    requires { length bytes.now ≡ 16 }
-    ensures value { result ≡ lettered bytes.now }
+// The event of a record, or the first rule that it breaks: two bytes and then fourteen, or it is not one.
+pub fn read(bytes: &[u8]) -> Result<Event, Refusal>
+    ensures value { result ≡ reading bytes.now }
     ensures layout { IfOk result (λ e. bytes.now ≡ record_of e) }
 {
     let [letter, segment, rest @ ..] = bytes else {
         return Err(Refusal::RecordLength);
     };
-    by_letter(*letter, *segment, rest)
-}
-
-// The event of a record, or the first rule that it breaks.
-pub fn read(bytes: &[u8]) -> Result<Event, Refusal>
-    ensures value { result ≡ reading bytes.now }
-    ensures layout { IfOk result (λ e. bytes.now ≡ record_of e) }
-{
-    if bytes.len() != 16 {
+    let Some(rest) = rest.as_array() else {
         return Err(Refusal::RecordLength);
-    }
-    event_of(bytes)
+    };
+    by_letter(*letter, *segment, rest)
 }
 
 #[cfg(test)]

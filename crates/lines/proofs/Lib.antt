@@ -1,1 +1,1 @@
-mod Places
+mod Digits

@@ -1,6 +1,8 @@
 // A line put down from its end to its front: newline, figures from the last to the first, letter.
-ghost use Rattle.std.specs.Prelude.{◌≡◌, ℕ, ◌+◌, ◌/◌, ◌%◌, ◌<◌, ◌≤◌, ◌∷◌, ◌++◌, length, drop, decimal};
+ghost use Rattle.std.specs.Prelude.{◌≡◌, ℕ, ◌+◌, ◌*◌, ◌/◌, ◌%◌, ◌<◌, ◌≤◌, List, [], ◌∷◌, ◌++◌, length, drop, decimal};
 ghost use Rattle.lines.specs.Text.{entered, Printed};
+
+use std::marker::Model;
 
 // The room that the longest line needs, and a little more.
 pub(crate) const ROOM: usize = 192;
@@ -13,66 +15,88 @@ fn digit(n: u64) -> u8
     b'0' + n as u8
 }
 
-// Puts a byte before the place `end`, and answers where it stands.
-fn put_byte(room: &mut [u8; 192], end: usize, byte: u8) -> usize
-    requires { (0 < end) × (end ≤ 192) }
-    ensures start { result + 1 ≡ end }
-    ensures bytes { drop result room.new ≡ byte ∷ drop end room.old }
-{
-    let at = end - 1;
-    room[at] = byte;
-    at
+// What stands of a line, at the end of its room, from byte `start` on.
+#[derive(Drop)]
+struct Backward {
+    start: usize,
+    room: [u8; ROOM],
 }
 
-// Puts two digits before the place `end`, and answers where they start.
-fn put_pair(room: &mut [u8; 192], end: usize, pair: u64) -> usize
-    requires { (pair < 100) × (2 ≤ end) × (end ≤ 192) }
-    ensures start { result + 2 ≡ end }
-    ensures bytes { drop result room.new ≡ (48 + pair / 10) ∷ (48 + pair % 10) ∷ drop end room.old }
-{
-    let at = put_byte(room, end, digit(pair % 10));
-    put_byte(room, at, digit(pair / 10))
+// Clauses see the bytes that stand, the first first.
+impl Model for Backward {
+    ghost Value = { List ℕ };
+
+    ghost view = { λ b. drop b.start b.room };
+
+    ghost invariant = { λ b. b.start ≤ 192 };
 }
 
-// Puts the digits of n before the place `end`, two at a time, and answers where they start.
-fn put_number(room: &mut [u8; 192], end: usize, n: u64) -> usize
-    requires { (length (decimal n) ≤ end) × (end ≤ 192) }
-    ensures start { result + length (decimal n) ≡ end }
-    ensures bytes { drop result room.new ≡ decimal n ++ drop end room.old }
-{
-    let mut at = end;
-    let mut rest = n;
-    while rest >= 100 {
-        at = put_pair(room, at, rest % 100);
-        rest /= 100;
+impl Backward {
+    // A newline alone.
+    fn new() -> Backward
+        ensures { result ≡ 10 ∷ [] }
+    {
+        Backward {
+            start: ROOM - 1,
+            room: [b'\n'; ROOM],
+        }
     }
-    if rest < 10 {
-        put_byte(room, at, digit(rest))
-    } else {
-        put_pair(room, at, rest)
-    }
-}
 
-// Puts each figure after a blank, and a newline, at the end of the room, and answers where they start.
-fn put_figures(room: &mut [u8; 192], figures: &[u64]) -> usize
-    requires { length figures.now ≤ 8 }
-    ensures start { (1 ≤ result) × (result ≤ 191) }
-    ensures bytes { drop result room.new ≡ entered figures.now }
-{
-    let mut at = put_byte(room, ROOM, b'\n');
-    for i in (0..figures.len()).rev() {
-        at = put_number(room, at, figures[i]);
-        at = put_byte(room, at, b' ');
+    // Puts a byte before what stands.
+    fn put_byte(&mut self, byte: u8)
+        requires { length self.old < 192 }
+        ensures { self.new ≡ byte ∷ self.old }
+    {
+        let at = self.start - 1;
+        self.room[at] = byte;
+        self.start = at;
     }
-    at
-}
 
-// Copies a line to the front of a buffer.
-fn copy(line: &[u8], out: &mut [u8])
-    requires { length line.now ≤ length out.old }
-    ensures { out.new ≡ line.now ++ drop (length line.now) out.old }
-{
-    out[0..line.len()].copy_from_slice(line);
+    // Puts two digits.
+    fn put_pair(&mut self, pair: u64)
+        requires { (pair < 100) × (length self.old + 2 ≤ 192) }
+        ensures { self.new ≡ (48 + pair / 10) ∷ (48 + pair % 10) ∷ self.old }
+    {
+        self.put_byte(digit(pair % 10));
+        self.put_byte(digit(pair / 10));
+    }
+
+    // Puts the digits of n, two at a time.
+    #[tactic(auto, using(crate::proofs::Digits::digits))]
+    fn put_number(&mut self, n: u64)
+        requires { length (decimal n) + length self.old ≤ 192 }
+        ensures { self.new ≡ decimal n ++ self.old }
+    {
+        if n >= 100 {
+            self.put_pair(n % 100);
+            self.put_number(n / 100);
+        } else if n >= 10 {
+            self.put_pair(n);
+        } else {
+            self.put_byte(digit(n));
+        }
+    }
+
+    // Puts a figure after a blank.
+    #[tactic(auto, using(crate::proofs::Digits::sizes))]
+    fn put_figure(&mut self, n: u64)
+        requires { length self.old + 21 ≤ 192 }
+        ensures value { self.new ≡ 32 ∷ (decimal n ++ self.old) }
+        ensures short { length self.new ≤ length self.old + 21 }
+    {
+        self.put_number(n);
+        self.put_byte(b' ');
+    }
+
+    // Copies the line to the front of a buffer, and answers its length.
+    fn copy(&self, out: &mut [u8]) -> usize
+        requires { 192 ≤ length out.old }
+        ensures { Printed self.now out.old result out.new }
+    {
+        let line = &self.room[self.start..];
+        out[..line.len()].copy_from_slice(line);
+        line.len()
+    }
 }
 
 // Puts a line at the front of a buffer, and answers its length.
@@ -81,9 +105,10 @@ pub(crate) fn put_line(out: &mut [u8], letter: u8, figures: &[u64]) -> usize
     requires few { length figures.now ≤ 8 }
     ensures { Printed (letter ∷ entered figures.now) out.old result out.new }
 {
-    let mut room = [0u8; ROOM];
-    let start = put_figures(&mut room, figures);
-    let at = put_byte(&mut room, start, letter);
-    copy(&room[at..], out);
-    ROOM - at
+    let mut line = Backward::new();
+    for figure in figures.iter().rev() {
+        line.put_figure(*figure);
+    }
+    line.put_byte(letter);
+    line.copy(out)
 }

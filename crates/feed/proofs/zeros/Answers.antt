@@ -1,13 +1,10 @@
--- The loop over a part's bytes.
-use Rattle.std.proofs.Common.{sym, ◌∙◌, arith}
-use Rattle.feed.proofs.Blanks.{blank_here, blank_more, blank_all}
+-- The part is refused where the first byte that is not zero stands.
+use Rattle.std.proofs.Common.{sym, ap, ◌∙◌}
+use Rattle.feed.proofs.Blanks.{refused, blank_at}
 use Rattle.feed.proofs.zeros.Goals as goal
 
-pub returns-then-byte-ne0 : goal.returns-then-byte-ne0
-returns-then-byte-ne0 c = let l = c.loop-i in sym (blank_here c.args.part.now c.args.at l.i (omega arith) c.if-byte-ne0.true) ∙ l.invariant
+pub returns-in-Some : goal.returns-in-Some
+returns-in-Some c = ap (refused c.args.at) (sym c.in-Some.is ∙ c.first_nonzero.ensures) ∙ blank_at c.args.at c.args.part.now
 
-pub loop-i-preserved : goal.loop-i-preserved
-loop-i-preserved c = let l = c.loop-i in sym (blank_more c.args.part.now c.args.at l.i (omega arith) c.if-byte-ne0.false) ∙ l.invariant
-
-pub returns : goal.returns
-returns c = let l = c.loop-i in sym (blank_all c.args.part.now c.args.at l.i (omega arith)) ∙ l.invariant
+pub returns-in-None : goal.returns-in-None
+returns-in-None c = ap (refused c.args.at) (sym c.in-None.is ∙ c.first_nonzero.ensures) ∙ blank_at c.args.at c.args.part.now

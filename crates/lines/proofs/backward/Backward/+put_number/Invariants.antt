@@ -1,0 +1,5 @@
+-- What is left of the number falls.
+use Rattle.lines.proofs.backward.Backward.+put_number.Given as goal
+
+abbrev pub decreases-put_number : goal.decreases-put_number
+decreases-put_number l = l.n
