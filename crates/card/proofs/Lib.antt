@@ -1,4 +1,4 @@
 mod Digits
 mod Names
-mod Counts
+mod Ranges
 mod Sheets
