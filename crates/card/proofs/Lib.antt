@@ -1,4 +1,3 @@
 mod Digits
 mod Names
-mod Ranges
 mod Sheets

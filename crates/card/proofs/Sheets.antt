@@ -16,8 +16,7 @@ use Rattle.card.specs.Figures.{figure_of}
 use Rattle.card.specs.Words.{words, place, within, ranged, no_word}
 use Rattle.card.specs.Fields.{name_at, figure_at}
 use Rattle.card.specs.Entries.{given, new_word, ranged_figure, pair, both, figure_under, entry_with, is, before, entry_at}
-use Rattle.card.specs.Cards.{Ranged, Holds, values, Says, Figures, fault_then, first_fault, records_fault}
-use Rattle.card.proofs.Ranges.{value_at}
+use Rattle.card.specs.Cards.{Ranged, Holds, Says, Figures, fault_then, first_fault, records_fault}
 use Rattle.card.proofs.Names.{place_below, place_name}
 
 -- a record before record n has the word at place k, and the figure v within its range
@@ -195,46 +194,38 @@ ranged_from (w ∷ ws) j vs each =
       ranged_from ws (suc j) vs (λ k lt. let y : suc j + k ≡ j + suc k = omega arith in ap (λ (n : ℕ). within (get_or ws k no_word) (get_or vs n 0)) y ∙ each (suc k) (omega arith)),
     )
 
-there : (o : Option ℕ) → is_some o ≡ true → (v : ℕ) × (o ≡ Some v)
-there None e = absurd (let z : ◌≡◌ {A = ℕ} 0 1 = cc in omega arith)
-there (Some v) e = (v, refl)
-
 -- after fourteen records each word has its figure
-module _ (card : List ℕ) (i : ℕ) (vs : List (Option ℕ)) (end : i ≡ 14) (noted : Noted card i vs) where
-  module _ (long : length vs ≡ 14) (full : count_by is_some vs ≡ i) where
-    given_all : (k : ℕ) → k < 14 → given vs k ≡ true
-    given_all k lt = count_all vs k (omega arith) (omega arith)
+module _ (card : List ℕ) (i : ℕ) (figures : List (Option ℕ)) (end : i ≡ 14) (noted : Noted card i figures) where
+  pub all_some : length figures ≡ 14 → count_by is_some figures ≡ i → All IsSome figures
+  all_some long full = All-from_get_or IsSome figures None (λ k lt. count_all figures k (omega arith) (omega arith))
 
-    pub all_some : All IsSome vs
-    all_some = All-from_get_or IsSome vs None (λ k lt. given_all k (omega arith))
+  -- vs are the figures without their `Some`
+  module _ (vs : List ℕ) (each : (k : ℕ) → k < 14 → get_or figures k None ≡ Some (get_or vs k 0)) where
+    gave : (k : ℕ) → k < 14 → Gave card i k (get_or vs k 0)
+    gave k lt = (noted k lt).1 (get_or vs k 0) (each k lt)
 
-    pub all_ranged : Ranged words 0 (values vs)
+    pub all_ranged : Ranged words 0 vs
     unfolding ranged
     all_ranged =
-        ranged_from words 0 (values vs) (λ k lt.
-        let h = there (get_or vs k None) (given_all k lt) in
-        let z : 0 + k ≡ k = omega arith in
-        ap (λ (n : ℕ). within (get_or words k no_word) (get_or (values vs) n 0)) z
-        ∙ ap (λ (v : ℕ). within (get_or words k no_word) v) (value_at vs k h.0 h.1)
-        ∙ ((noted k lt).1 h.0 h.1).4)
+        ranged_from words 0 vs (λ k lt. let z : 0 + k ≡ k = omega arith in ap (λ (n : ℕ). within (get_or words k no_word) (get_or vs n 0)) z ∙ (gave k lt).4)
 
-  says_at : (k v : ℕ) → k < 14 → get_or vs k None ≡ Some v → Says card (get_or words k no_word).name v
-  says_at k v lt e = let h = (noted k lt).1 v e in (h.0, omega (arith, h.1), place_name (name_at card h.0) k h.2, h.3)
+    says_at : (k x : ℕ) → k < 14 → x ≡ get_or vs k 0 → Says card (get_or words k no_word).name x
+    says_at k x lt e = let h = gave k lt in (h.0, omega (arith, h.1), place_name (name_at card h.0) k h.2, h.3 ∙ ap Some (sym e))
 
-  pub all_said : (c : Card) → Holds vs c → Figures card c
-  all_said c holds = record {
-    area = says_at 0 c.area (lit< tt) holds.area;
-    impv = says_at 1 c.impv (lit< tt) holds.impv;
-    cepsc = says_at 2 c.cepsc (lit< tt) holds.cepsc;
-    uzsn = says_at 3 c.uzsn (lit< tt) holds.uzsn;
-    lzsn = says_at 4 c.lzsn (lit< tt) holds.lzsn;
-    infilt = says_at 5 c.infilt (lit< tt) holds.infilt;
-    intfw = says_at 6 c.intfw (lit< tt) holds.intfw;
-    lzetp = says_at 7 c.lzetp (lit< tt) holds.lzetp;
-    deepfr = says_at 8 c.deepfr (lit< tt) holds.deepfr;
-    agwetp = says_at 9 c.agwetp (lit< tt) holds.agwetp;
-    ovk = says_at 10 c.ovk (lit< tt) holds.ovk;
-    ifwk = says_at 11 c.ifwk (lit< tt) holds.ifwk;
-    gwk = says_at 12 c.gwk (lit< tt) holds.gwk;
-    chk = says_at 13 c.chk (lit< tt) holds.chk;
-  }
+    pub all_said : (c : Card) → Holds vs c → Figures card c
+    all_said c holds = record {
+      area = says_at 0 c.area (lit< tt) holds.area;
+      impv = says_at 1 c.impv (lit< tt) holds.impv;
+      cepsc = says_at 2 c.cepsc (lit< tt) holds.cepsc;
+      uzsn = says_at 3 c.uzsn (lit< tt) holds.uzsn;
+      lzsn = says_at 4 c.lzsn (lit< tt) holds.lzsn;
+      infilt = says_at 5 c.infilt (lit< tt) holds.infilt;
+      intfw = says_at 6 c.intfw (lit< tt) holds.intfw;
+      lzetp = says_at 7 c.lzetp (lit< tt) holds.lzetp;
+      deepfr = says_at 8 c.deepfr (lit< tt) holds.deepfr;
+      agwetp = says_at 9 c.agwetp (lit< tt) holds.agwetp;
+      ovk = says_at 10 c.ovk (lit< tt) holds.ovk;
+      ifwk = says_at 11 c.ifwk (lit< tt) holds.ifwk;
+      gwk = says_at 12 c.gwk (lit< tt) holds.gwk;
+      chk = says_at 13 c.chk (lit< tt) holds.chk;
+    }

@@ -1,14 +1,12 @@
 -- What a check answers: the figures of a good card, or the first rule that a bad one breaks.
 --   Ranged ws k vs         the figures vs from place k on are within the ranges of the words ws
---   values vs              the figures vs, each of which is there
 --   Holds vs c             the figures of c are vs, in the order of the words
 --   Says card name v       a record of the card has this name, and its figure is v
 --   Figures card c         c has the figures that the card says
 --   first_fault card i n   the first rule that one of the n records from i on breaks
 --   records_fault card     the first rule that one of the fourteen records breaks
 --   fault_of card          the first rule that a card breaks, its length before all else
-use Rattle.std.specs.Prelude.{◌≡◌, ℕ, zero, suc, ◌+◌, ◌<◌, ◌≤◌, cond, List, [], ◌∷◌, length, Some, None, Ok, Err, codes, Option, Result, ◌==◌, slice_index, slice_index_or, map}
-use Rattle.std.specs.Option.{unwrap_or}
+use Rattle.std.specs.Prelude.{◌≡◌, ℕ, zero, suc, ◌+◌, ◌<◌, ◌≤◌, cond, List, [], ◌∷◌, length, Some, None, Ok, Err, codes, Option, Result, ◌==◌, slice_index}
 use Rattle.refusals.specs.declared.Refusal.{Refusal}
 use Rattle.refusals.specs.declared.Refusal.TheVariants.{CardLength}
 use Rattle.card.specs.declared.checked.Card.{Card}
@@ -21,25 +19,21 @@ abbrev pub Ranged : List Word → ℕ → List ℕ → Type 0
 Ranged [] k vs = Unit {0}
 Ranged (w ∷ ws) k vs = (w.least ≤ slice_index vs k) × (slice_index vs k ≤ w.most) × Ranged ws (suc k) vs
 
--- the figures that are there, and 0 for one that is not
-abbrev pub values : List (Option ℕ) → List ℕ
-values vs = map (λ o. unwrap_or o 0) vs
-
-pub record Holds (vs : List (Option ℕ)) (c : Card) : Type 0 where
-  pub area : slice_index_or vs 0 None ≡ Some c.area
-  pub impv : slice_index_or vs 1 None ≡ Some c.impv
-  pub cepsc : slice_index_or vs 2 None ≡ Some c.cepsc
-  pub uzsn : slice_index_or vs 3 None ≡ Some c.uzsn
-  pub lzsn : slice_index_or vs 4 None ≡ Some c.lzsn
-  pub infilt : slice_index_or vs 5 None ≡ Some c.infilt
-  pub intfw : slice_index_or vs 6 None ≡ Some c.intfw
-  pub lzetp : slice_index_or vs 7 None ≡ Some c.lzetp
-  pub deepfr : slice_index_or vs 8 None ≡ Some c.deepfr
-  pub agwetp : slice_index_or vs 9 None ≡ Some c.agwetp
-  pub ovk : slice_index_or vs 10 None ≡ Some c.ovk
-  pub ifwk : slice_index_or vs 11 None ≡ Some c.ifwk
-  pub gwk : slice_index_or vs 12 None ≡ Some c.gwk
-  pub chk : slice_index_or vs 13 None ≡ Some c.chk
+pub record Holds (vs : List ℕ) (c : Card) : Type 0 where
+  pub area : c.area ≡ slice_index vs 0
+  pub impv : c.impv ≡ slice_index vs 1
+  pub cepsc : c.cepsc ≡ slice_index vs 2
+  pub uzsn : c.uzsn ≡ slice_index vs 3
+  pub lzsn : c.lzsn ≡ slice_index vs 4
+  pub infilt : c.infilt ≡ slice_index vs 5
+  pub intfw : c.intfw ≡ slice_index vs 6
+  pub lzetp : c.lzetp ≡ slice_index vs 7
+  pub deepfr : c.deepfr ≡ slice_index vs 8
+  pub agwetp : c.agwetp ≡ slice_index vs 9
+  pub ovk : c.ovk ≡ slice_index vs 10
+  pub ifwk : c.ifwk ≡ slice_index vs 11
+  pub gwk : c.gwk ≡ slice_index vs 12
+  pub chk : c.chk ≡ slice_index vs 13
 
 abbrev pub Says : List ℕ → List ℕ → ℕ → Type 0
 Says card name v = (i : ℕ) × (i < 14) × (name_at card i ≡ name) × (figure_of (figure_at card i) ≡ Some v)

@@ -1,7 +1,7 @@
 // The parameter card: fourteen records of a name and a figure, checked.
 #![tactic(auto)]
 
-ghost use Rattle.std.specs.Prelude.{◌≡◌, IfOk};
+ghost use Rattle.std.specs.Prelude.{◌≡◌, ℕ, ◌<◌, All, IsSome, IfOk, slice_index, slice_index_or};
 ghost use Rattle.std.specs.Result.{result_err};
 ghost use Rattle.card.specs.Cards.{Figures, records_fault, fault_of};
 
@@ -17,6 +17,14 @@ mod words;
 
 pub use checked::Card;
 
+// The figures of fourteen words that each have one.
+fn values(figures: [Option<u64>; 14]) -> [u64; 14]
+    requires { All IsSome figures }
+    ensures { (k : ℕ) → k < 14 → slice_index_or figures k None ≡ Some (slice_index result k) }
+{
+    figures.map(Option::unwrap)
+}
+
 // Reads the fourteen records of a card.
 fn read(card: &[u8; 280]) -> Result<Card, Refusal>
     ensures refusal { result_err result ≡ records_fault card.now }
@@ -29,7 +37,7 @@ fn read(card: &[u8; 280]) -> Result<Card, Refusal>
         let (k, v) = Record { at, bytes }.read(&figures)?;
         figures[k] = Some(v);
     }
-    Ok(card_of(figures))
+    Ok(card_of(&values(figures)))
 }
 
 // Checks a card: its figures, or the first rule that it breaks.

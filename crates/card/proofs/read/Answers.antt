@@ -30,17 +30,16 @@ loop-i-preserved c =
       noted = noted_more card l.i l.figures k v entry l.invariant.noted l.invariant.long;
     }
 
+pub values-requires : goal.values-requires
+values-requires c = let l = c.loop-i in all_some c.args.card.now l.i l.figures (omega arith) l.invariant.noted l.invariant.long l.invariant.full
+
 pub card_of-requires : goal.card_of-requires
-card_of-requires c =
-    let l = c.loop-i in
-    let card = c.args.card.now in
-    record {
-      full = all_some card l.i l.figures (omega arith) l.invariant.noted l.invariant.long l.invariant.full;
-      ranged = all_ranged card l.i l.figures (omega arith) l.invariant.noted l.invariant.long l.invariant.full;
-    }
+card_of-requires c = let l = c.loop-i in all_ranged c.args.card.now l.i l.figures (omega arith) l.invariant.noted c.values.result c.values.ensures
 
 pub returns-clause-refusal : goal.returns-clause-refusal
 returns-clause-refusal c = sym (no_fault c.args.card.now c.loop-i.i (omega arith) c.loop-i.invariant.clean)
 
 pub returns-clause-figures : goal.returns-clause-figures
-returns-clause-figures c = let l = c.loop-i in all_said c.args.card.now l.i l.figures (omega arith) l.invariant.noted c.card_of.result c.card_of.ensures
+returns-clause-figures c =
+    let l = c.loop-i in
+    all_said c.args.card.now l.i l.figures (omega arith) l.invariant.noted c.values.result c.values.ensures c.card_of.result c.card_of.ensures

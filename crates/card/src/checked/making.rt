@@ -1,49 +1,28 @@
 // The making of a checked card, from figures that are within their ranges.
-ghost use Rattle.std.specs.Prelude.{All, IsSome};
 ghost use Rattle.card.specs.Words.{words};
-ghost use Rattle.card.specs.Cards.{Ranged, Holds, values};
+ghost use Rattle.card.specs.Cards.{Ranged, Holds};
 
 use crate::checked::Card;
 
 // The card of fourteen figures, in the order of the words.
-pub(crate) fn card_of(figures: [Option<u64>; 14]) -> Card
-    requires full { All IsSome figures }
-    requires ranged { Ranged words 0 (values figures) }
-    ensures { Holds figures result }
+pub(crate) fn card_of(figures: &[u64; 14]) -> Card
+    requires { Ranged words 0 figures.now }
+    ensures { Holds figures.now result }
 {
-    let [
-        Some(area),
-        Some(impv),
-        Some(cepsc),
-        Some(uzsn),
-        Some(lzsn),
-        Some(infilt),
-        Some(intfw),
-        Some(lzetp),
-        Some(deepfr),
-        Some(agwetp),
-        Some(ovk),
-        Some(ifwk),
-        Some(gwk),
-        Some(chk),
-    ] = figures
-    else {
-        unreachable!()
-    };
     Card {
-        area,
-        impv,
-        cepsc,
-        uzsn,
-        lzsn,
-        infilt,
-        intfw,
-        lzetp,
-        deepfr,
-        agwetp,
-        ovk,
-        ifwk,
-        gwk,
-        chk,
+        area: figures[0],
+        impv: figures[1],
+        cepsc: figures[2],
+        uzsn: figures[3],
+        lzsn: figures[4],
+        infilt: figures[5],
+        intfw: figures[6],
+        lzetp: figures[7],
+        deepfr: figures[8],
+        agwetp: figures[9],
+        ovk: figures[10],
+        ifwk: figures[11],
+        gwk: figures[12],
+        chk: figures[13],
     }
 }
