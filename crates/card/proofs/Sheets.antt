@@ -40,28 +40,28 @@ pub record Entry (met : ℕ → Bool) (name figure : List ℕ) (k v : ℕ) : Typ
 
 -- the word, as it is read
 word_parts : (at : ℕ) (met : ℕ → Bool) (o : Option ℕ) (k : ℕ) → Ok k ≡ new_word at met o → (o ≡ Some k) × (met k ≡ false)
-word_parts at met None k e = absurd (let z : ◌≡◌ {A = ℕ} 0 1 = cc in omega arith)
+word_parts at met None k e = cc
 word_parts at met (Some j) k e =
     ⊎_elim
-    (λ t. let h : Ok k ≡ Err (RepeatedName at) = e ∙ ap (λ b. cond b (Err (RepeatedName at)) (Ok j)) t in absurd (let z : ◌≡◌ {A = ℕ} 0 1 = cc in omega arith))
+    (λ t. let h : Ok k ≡ Err (RepeatedName at) = e ∙ ap (λ b. cond b (Err (RepeatedName at)) (Ok j)) t in cc)
     (λ t. let h : Ok k ≡ Ok j = e ∙ ap (λ b. cond b (Err (RepeatedName at)) (Ok j)) t in let z : j ≡ k = cc in (ap Some z, ap met (sym z) ∙ t))
     (cases_Bool (met j))
 
 -- the figure, as it is read
 figure_parts : (at k : ℕ) (o : Option ℕ) (v : ℕ) → Ok v ≡ ranged_figure at k o → (o ≡ Some v) × (ranged k v ≡ true)
-figure_parts at k None v e = absurd (let z : ◌≡◌ {A = ℕ} 0 1 = cc in omega arith)
+figure_parts at k None v e = cc
 figure_parts at k (Some u) v e =
     ⊎_elim
     (λ t. let h : Ok v ≡ Ok u = e ∙ ap (λ b. cond b (Ok u) (Err (OutOfRange at))) t in let z : u ≡ v = cc in (ap Some z, ap (ranged k) (sym z) ∙ t))
-    (λ t. let h : Ok v ≡ Err (OutOfRange at) = e ∙ ap (λ b. cond b (Ok u) (Err (OutOfRange at))) t in absurd (let z : ◌≡◌ {A = ℕ} 0 1 = cc in omega arith))
+    (λ t. let h : Ok v ≡ Err (OutOfRange at) = e ∙ ap (λ b. cond b (Ok u) (Err (OutOfRange at))) t in cc)
     (cases_Bool (ranged k u))
 
 pair_parts : (j : ℕ) (r : Result ℕ Refusal) (k v : ℕ) → Ok (k, v) ≡ pair j r → (j ≡ k) × (Ok v ≡ r)
-pair_parts j (Err f) k v e = absurd (let z : ◌≡◌ {A = ℕ} 0 1 = cc in omega arith)
+pair_parts j (Err f) k v e = cc
 pair_parts j (Ok u) k v e = let h : (k, v) ≡ (j, u) = cc in (sym (ap (λ (p : ℕ × ℕ). p.0) h), ap (λ (p : ℕ × ℕ). Ok p.1) h)
 
 both_parts : (r : Result ℕ Refusal) (F : ℕ → Result ℕ Refusal) (k v : ℕ) → Ok (k, v) ≡ both r F → (Ok k ≡ r) × (Ok v ≡ F k)
-both_parts (Err f) F k v e = absurd (let z : ◌≡◌ {A = ℕ} 0 1 = cc in omega arith)
+both_parts (Err f) F k v e = cc
 both_parts (Ok j) F k v e = let h = pair_parts j (F j) k v e in (ap Ok (sym h.0), h.1 ∙ ap F h.0)
 
 pub entry_parts : (met : ℕ → Bool) (at : ℕ) (name figure : List ℕ) (k v : ℕ) → Ok (k, v) ≡ entry_with met at name figure → Entry met name figure k v
@@ -138,10 +138,10 @@ module _ (card : List ℕ) (i : ℕ) (vs : List (Option ℕ)) (k v : ℕ) (entry
 -- the first refusal among some records
 fault_none : (r : Result (ℕ × ℕ) Refusal) (g : Option Refusal) → result_err r ≡ None → fault_then r g ≡ g
 fault_none (Ok e) g h = refl
-fault_none (Err f) g h = absurd (let z : ◌≡◌ {A = ℕ} 0 1 = cc in omega arith)
+fault_none (Err f) g h = cc
 
 fault_some : (r : Result (ℕ × ℕ) Refusal) (g : Option Refusal) (f : Refusal) → result_err r ≡ Some f → fault_then r g ≡ Some f
-fault_some (Ok e) g f h = absurd (let z : ◌≡◌ {A = ℕ} 0 1 = cc in omega arith)
+fault_some (Ok e) g f h = cc
 fault_some (Err x) g f h = h
 
 first_none : (card : List ℕ) (i n : ℕ) → ((j : ℕ) → j < i + n → result_err (entry_at card j) ≡ None) → first_fault card i n ≡ None

@@ -30,10 +30,9 @@ impl<'a> Field<'a> {
         ensures below { IfOk result (λ n. Placed (part self.entry) n) }
     {
         match self {
-            Field::Name { at, text } => match place_of(text) {
-                Some(k) => Ok(k as u64),
-                None => Err(Refusal::UnknownName(at)),
-            },
+            Field::Name { at, text } => place_of(text)
+                .map(|k| k as u64)
+                .ok_or(Refusal::UnknownName(at)),
             Field::Figure { at, text } => figure(text).ok_or(Refusal::NotANumber(at)),
         }
     }
