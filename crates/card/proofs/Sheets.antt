@@ -41,28 +41,20 @@ pub record Entry (met : ℕ → Bool) (name figure : List ℕ) (k v : ℕ) : Typ
 -- the word, as it is read
 word_parts : (at : ℕ) (met : ℕ → Bool) (o : Option ℕ) (k : ℕ) → Ok k ≡ new_word at met o → (o ≡ Some k) × (met k ≡ false)
 word_parts at met None k e = cc
-word_parts at met (Some j) k e =
-    ⊎_elim
-    (λ t. let h : Ok k ≡ Err (RepeatedName at) = e ∙ ap (λ b. cond b (Err (RepeatedName at)) (Ok j)) t in cc)
-    (λ t. let h : Ok k ≡ Ok j = e ∙ ap (λ b. cond b (Err (RepeatedName at)) (Ok j)) t in let z : j ≡ k = cc in (ap Some z, ap met (sym z) ∙ t))
-    (cases_Bool (met j))
+word_parts at met (Some j) k e = grind arith
 
 -- the figure, as it is read
 figure_parts : (at k : ℕ) (o : Option ℕ) (v : ℕ) → Ok v ≡ ranged_figure at k o → (o ≡ Some v) × (ranged k v ≡ true)
 figure_parts at k None v e = cc
-figure_parts at k (Some u) v e =
-    ⊎_elim
-    (λ t. let h : Ok v ≡ Ok u = e ∙ ap (λ b. cond b (Ok u) (Err (OutOfRange at))) t in let z : u ≡ v = cc in (ap Some z, ap (ranged k) (sym z) ∙ t))
-    (λ t. let h : Ok v ≡ Err (OutOfRange at) = e ∙ ap (λ b. cond b (Ok u) (Err (OutOfRange at))) t in cc)
-    (cases_Bool (ranged k u))
+figure_parts at k (Some u) v e = grind arith
 
 pair_parts : (j : ℕ) (r : Result ℕ Refusal) (k v : ℕ) → Ok (k, v) ≡ pair j r → (j ≡ k) × (Ok v ≡ r)
 pair_parts j (Err f) k v e = cc
-pair_parts j (Ok u) k v e = let h : (k, v) ≡ (j, u) = cc in (sym (ap (λ (p : ℕ × ℕ). p.0) h), ap (λ (p : ℕ × ℕ). Ok p.1) h)
+pair_parts j (Ok u) k v e = grind arith
 
 both_parts : (r : Result ℕ Refusal) (F : ℕ → Result ℕ Refusal) (k v : ℕ) → Ok (k, v) ≡ both r F → (Ok k ≡ r) × (Ok v ≡ F k)
 both_parts (Err f) F k v e = cc
-both_parts (Ok j) F k v e = let h = pair_parts j (F j) k v e in (ap Ok (sym h.0), h.1 ∙ ap F h.0)
+both_parts (Ok j) F k v e = let h = pair_parts j (F j) k v e in grind arith
 
 pub entry_parts : (met : ℕ → Bool) (at : ℕ) (name figure : List ℕ) (k v : ℕ) → Ok (k, v) ≡ entry_with met at name figure → Entry met name figure k v
 entry_parts met at name figure k v e =
@@ -91,7 +83,7 @@ record_read card records n i met e lt =
 -- two accounts of the words met that agree at a record's word read it alike
 same_word : (at : ℕ) (met seen : ℕ → Bool) (o : Option ℕ) → ((k : ℕ) → o ≡ Some k → met k ≡ seen k) → new_word at met o ≡ new_word at seen o
 same_word at met seen None agree = refl
-same_word at met seen (Some k) agree = ap (λ b. cond b (Err (RepeatedName at)) (Ok k)) (agree k refl)
+same_word at met seen (Some k) agree = let e = agree k refl in cc
 
 same_entry : (card : List ℕ) (i : ℕ) (vs : List (Option ℕ)) → Noted card i vs → entry_with (given vs) (20 * i) (name_at card i) (figure_at card i) ≡ entry_at card i
 same_entry card i vs noted =
@@ -137,7 +129,7 @@ module _ (card : List ℕ) (i : ℕ) (vs : List (Option ℕ)) (k v : ℕ) (entry
 
 -- the first refusal among some records
 fault_none : (r : Result (ℕ × ℕ) Refusal) (g : Option Refusal) → result_err r ≡ None → fault_then r g ≡ g
-fault_none (Ok e) g h = refl
+fault_none (Ok e) g h = cc
 fault_none (Err f) g h = cc
 
 fault_some : (r : Result (ℕ × ℕ) Refusal) (g : Option Refusal) (f : Refusal) → result_err r ≡ Some f → fault_then r g ≡ Some f
