@@ -7,9 +7,8 @@ use Rattle.std.proofs.lemmas.Option.{none-some, same_Some}
 use Rattle.std.proofs.lemmas.List.Elements.{All-from_get_or}
 use Rattle.std.proofs.lemmas.List.Sums.{sum_by-set, count_by-le-length}
 use Rattle.std.proofs.lemmas.List.{drop-drop, take-take, drop-take, get_or-set_same, get_or-set_other, get_or-replicate}
-use Rattle.std.proofs.lemmas.Bool.{cases_Bool, cases_eq, eq-eqb, ne_eqb, both_ways, and_parts, leb-true}
+use Rattle.std.proofs.lemmas.Bool.{cases_Bool, cases_eq, eq-eqb, ne_eqb, and_parts, leb-true}
 use Rattle.refusals.specs.declared.Refusal.{Refusal}
-use Rattle.refusals.specs.declared.Refusal.TheVariants.{RepeatedName, OutOfRange}
 use Rattle.card.specs.declared.checked.Card.{Card}
 use Rattle.card.specs.declared.words.Word.{Word}
 use Rattle.card.specs.Figures.{figure_of}
@@ -109,14 +108,14 @@ module _ (card : List ℕ) (i : ℕ) (vs : List (Option ℕ)) (k v : ℕ) (entry
   noted_here : length vs ≡ 14 → k < 14 → (given (set vs k (Some v)) k ≡ before card k (i + 1)) × ((w : ℕ) → get_or (set vs k (Some v)) k None ≡ Some w → Gave card (i + 1) k w)
   noted_here long lt =
       let put = get_or-set_same vs k (Some v) None (omega arith) in (
-        ap is_some put ∙ sym (before_more card k i ∙ ap (λ o. is o k || before card k i) entry.word ∙ ap (λ t. t || before card k i) (eq-eqb k k refl)),
-        λ w t. let e : v ≡ w = same_Some v w (sym put ∙ t) in (i, omega arith, entry.word, entry.value ∙ ap Some e, ap (ranged k) (sym e) ∙ entry.range),
+        grind (arith, put, entry.word, before_more card k i, eq-eqb k k),
+        λ w t. let e : v ≡ w = same_Some v w (sym put ∙ t) in (i, omega arith, entry.word, cc (entry.value), cc (entry.range)),
       )
 
   noted_there : (j : ℕ) → j < 14 → (j ≡ k → ⊥) → (given (set vs k (Some v)) j ≡ before card j (i + 1)) × ((w : ℕ) → get_or (set vs k (Some v)) j None ≡ Some w → Gave card (i + 1) j w)
   noted_there j lt ne =
       let other = get_or-set_other vs k j (Some v) None ne in (
-        ap is_some other ∙ (noted j lt).0 ∙ sym (before_more card j i ∙ ap (λ o. is o j || before card j i) entry.word ∙ ap (λ t. t || before card j i) (ne_eqb k j (λ z. ne (sym z)))),
+        let fact = (noted j lt).0 in grind (arith, other, fact, entry.word, before_more card j i, ne_eqb k j),
         λ w t. gave_more card i j w ((noted j lt).1 w (sym other ∙ t)),
       )
 

@@ -1,5 +1,5 @@
 -- The loop over the fourteen records.
-use Rattle.std.proofs.Common.{◌≡◌, ℕ, ◌*◌, ◌<◌, ◌/◌, length, Ok, Err, sym, ◌∙◌, arith, length-set, below_more}
+use Rattle.std.proofs.Common.{◌≡◌, ◌*◌, ◌/◌, length, Ok, Err, sym, ◌∙◌, arith, length-set, below_more}
 use Rattle.std.proofs.lemmas.Result.{err_from_is_err_and}
 use Rattle.card.specs.Fields.{name_at, figure_at}
 use Rattle.card.specs.Entries.{given, entry_with}
