@@ -1,4 +1,2 @@
-mod Digits
 mod Names
-mod Counts
 mod Sheets

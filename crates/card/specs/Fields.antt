@@ -1,8 +1,9 @@
 -- The fields of a card: where they stand, and what they say.
 --   Part                  a name or a figure: its offset and its bytes
 --   part f                what a field of the program is
---   name_field card i     the name of record i
---   figure_field card i   the figure of record i
+--   offset p              where a part begins
+--   name_at card i        the bytes of record i's name
+--   figure_at card i      the bytes of record i's figure
 --   told p                what a part says: the place of its name among the words, or its figure
 use Rattle.std.specs.Prelude.{ℕ, ◌+◌, ◌*◌, ◌<◌, List, take, drop, Result}
 use Rattle.std.specs.Option.{ok_or}
@@ -21,27 +22,15 @@ abbrev pub part : Field → Part
 part (Name at p) = a_name at p.now
 part (Figure at p) = a_figure at p.now
 
--- where a part begins, and its bytes
 abbrev pub offset : Part → ℕ
 offset (a_name at cs) = at
 offset (a_figure at cs) = at
 
-abbrev pub bytes_of : Part → List ℕ
-bytes_of (a_name at cs) = cs
-bytes_of (a_figure at cs) = cs
-
--- the bytes of record i's name, and of its figure
 abbrev pub name_at : List ℕ → ℕ → List ℕ
 name_at card i = take 8 (drop (20 * i) card)
 
 abbrev pub figure_at : List ℕ → ℕ → List ℕ
 figure_at card i = take 12 (drop (20 * i + 8) card)
-
-abbrev pub name_field : List ℕ → ℕ → Part
-name_field card i = a_name (20 * i) (name_at card i)
-
-abbrev pub figure_field : List ℕ → ℕ → Part
-figure_field card i = a_figure (20 * i + 8) (figure_at card i)
 
 abbrev pub told : Part → Result ℕ Refusal
 told (a_name at cs) = ok_or (place cs) (UnknownName at)

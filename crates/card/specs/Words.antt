@@ -1,10 +1,9 @@
 -- The fourteen words of a card, each with the least and the most of its figure.
---   words              the fourteen, in the order in which a checked card holds their figures
---   place_in ws k cs   the place of the name cs among the words ws, counted from k
---   place cs           the place of the name cs among the fourteen, if it is one of them
---   within w v         v is within the range of the word w
---   ranged k v         v is within the range of the word at place k
-use Rattle.std.specs.Prelude.{ℕ, ◌+◌, Bool, cond, ◌&&◌, List, [], ◌∷◌, Some, None, codes, Option, nat_le, slice_index_or}
+--   words         the fourteen, in the order in which a checked card holds their figures
+--   place cs      the place of the name cs among the fourteen, if it is one of them
+--   within w v    v is within the range of the word w
+--   ranged k v    v is within the range of the word at place k
+use Rattle.std.specs.Prelude.{ℕ, Bool, ◌&&◌, List, [], ◌∷◌, codes, Option, nat_le, slice_index_or, position}
 use Rattle.std.specs.Str.{bytes_eq}
 use Rattle.card.specs.declared.words.Word.{Word}
 
@@ -26,12 +25,8 @@ words =
     ∷ record { name = codes "CHK     "; least = 1; most = 1048576 }
     ∷ []
 
-abbrev pub place_in : List Word → ℕ → List ℕ → Option ℕ
-place_in [] k cs = None
-place_in (w ∷ ws) k cs = cond (bytes_eq cs w.name) (Some k) (place_in ws (k + 1) cs)
-
 unfoldable pub place : List ℕ → Option ℕ
-place cs = place_in words 0 cs
+place cs = position (λ (w : Word). bytes_eq cs w.name) words
 
 abbrev pub within : Word → ℕ → Bool
 within w v = nat_le w.least v && nat_le v w.most

@@ -1,17 +1,17 @@
 // The figure of a record: decimal digits, with blanks before them.
 ghost use Rattle.std.specs.Prelude.{◌≡◌, ℕ, ◌+◌, ◌-◌, ◌*◌, ◌^◌, ◌<◌, ◌≤◌, length};
-ghost use Rattle.card.specs.Figures.{unblanked, number_from, some_digits, figure_of};
+ghost use Rattle.card.specs.Figures.{unblanked, number_from, figure_of};
 
 // A text without the blanks before it.
 fn trimmed(text: &[u8]) -> &[u8]
     ensures bytes { result.now ≡ unblanked text.now }
     ensures shorter { length result.now ≤ length text.now }
 {
-    let mut at = 0;
-    while at < text.len() && text[at] == b' ' {
-        at += 1;
+    let mut rest = text;
+    while let [b' ', after @ ..] = rest {
+        rest = after;
     }
-    &text[at..]
+    rest
 }
 
 // A number with one more digit at its end.
@@ -38,18 +38,13 @@ fn number(text: &[u8]) -> Option<u64>
     Some(n)
 }
 
-// The same, of at least one digit.
-fn digits(text: &[u8]) -> Option<u64>
-    requires { length text.now ≤ 12 }
-    ensures { result ≡ some_digits text.now }
-{
-    if text.is_empty() { None } else { number(text) }
-}
-
-// The number that a figure writes: blanks, then digits, and nothing else.
-pub(crate) fn figure(text: &[u8]) -> Option<u64>
-    requires { length text.now ≤ 12 }
+// The number that a figure writes: blanks, then at least one digit, and nothing else.
+#[tactic(auto, unfolding(crate::specs::Figures::figure_of))]
+pub(crate) fn figure(text: &[u8; 12]) -> Option<u64>
     ensures { result ≡ figure_of text.now }
 {
-    digits(trimmed(text))
+    match trimmed(text) {
+        [] => None,
+        digits => number(digits),
+    }
 }

@@ -1,12 +1,12 @@
 // The parameter card: fourteen records of a name and a figure, checked.
 #![tactic(auto)]
 
-ghost use Rattle.std.specs.Prelude.{◌≡◌, length, IfOk};
+ghost use Rattle.std.specs.Prelude.{◌≡◌, ℕ, ◌<◌, All, IsSome, IfOk, slice_index, slice_index_or};
 ghost use Rattle.std.specs.Result.{result_err};
 ghost use Rattle.card.specs.Cards.{Figures, records_fault, fault_of};
 
 use crate::checked::making::card_of;
-use crate::entries::entry;
+use crate::entries::Record;
 use refusals::Refusal;
 
 mod checked;
@@ -17,20 +17,27 @@ mod words;
 
 pub use checked::Card;
 
-// Reads the fourteen records of a card.
-fn read(bytes: &[u8]) -> Result<Card, Refusal>
-    requires { length bytes.now ≡ 280 }
-    ensures refusal { result_err result ≡ records_fault bytes.now }
-    ensures figures { IfOk result (λ c. Figures bytes.now c) }
+// The figures of fourteen words that each have one.
+fn values(figures: [Option<u64>; 14]) -> [u64; 14]
+    requires { All IsSome figures }
+    ensures { (k : ℕ) → k < 14 → slice_index_or figures k None ≡ Some (slice_index result k) }
 {
-    let mut met = [false; 14];
-    let mut figures = [0u64; 14];
-    for i in 0..14 {
-        let (k, v) = entry(bytes, i, &met)?;
-        met[k] = true;
-        figures[k] = v;
+    figures.map(Option::unwrap)
+}
+
+// Reads the fourteen records of a card.
+fn read(card: &[u8; 280]) -> Result<Card, Refusal>
+    ensures refusal { result_err result ≡ records_fault card.now }
+    ensures figures { IfOk result (λ c. Figures card.now c) }
+{
+    let (records, _) = card.as_chunks::<20>();
+    let mut figures = [None; 14];
+    for (i, bytes) in records.iter().enumerate() {
+        let at = 20 * i as u64;
+        let (k, v) = Record { at, bytes }.read(&figures)?;
+        figures[k] = Some(v);
     }
-    Ok(card_of(&figures))
+    Ok(card_of(&values(figures)))
 }
 
 // Checks a card: its figures, or the first rule that it breaks.
@@ -38,10 +45,10 @@ pub fn check(bytes: &[u8]) -> Result<Card, Refusal>
     ensures refusal { result_err result ≡ fault_of bytes.now }
     ensures figures { IfOk result (λ c. Figures bytes.now c) }
 {
-    if bytes.len() != 280 {
+    let Some(card) = bytes.as_array() else {
         return Err(Refusal::CardLength);
-    }
-    read(bytes)
+    };
+    read(card)
 }
 
 #[cfg(test)]

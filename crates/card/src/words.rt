@@ -1,6 +1,6 @@
 // The fourteen words of a card, each with the least and the most of its figure.
-ghost use Rattle.std.specs.Prelude.{◌≡◌, ℕ, ◌<◌, length, IfSome};
-ghost use Rattle.card.specs.Words.{place_in, place, within, ranged};
+ghost use Rattle.std.specs.Prelude.{◌≡◌, ◌<◌, IfSome};
+ghost use Rattle.card.specs.Words.{place, within, ranged};
 
 // A name as a card writes it, and the range of its figure.
 #[derive(Clone, Copy)]
@@ -84,25 +84,13 @@ const WORDS: [Word; 14] = [
     },
 ];
 
-// The place of a name among some words.
-fn find(words: &[Word], name: &[u8]) -> Option<usize>
-    ensures value { result ≡ place_in words.now 0 name.now }
-    ensures below { IfSome result (λ k. k < length words.now) }
-{
-    for (k, word) in words.iter().enumerate() {
-        if name == word.name.as_slice() {
-            return Some(k);
-        }
-    }
-    None
-}
-
 // The place of a name among the fourteen words.
-pub(crate) fn place_of(name: &[u8]) -> Option<usize>
+#[tactic(auto, unfolding(crate::specs::Words::place))]
+pub(crate) fn place_of(name: &[u8; 8]) -> Option<usize>
     ensures value { result ≡ place name.now }
     ensures below { IfSome result (λ k. k < 14) }
 {
-    find(&WORDS, name)
+    WORDS.iter().position(|word| word.name == *name)
 }
 
 impl Word {
@@ -115,6 +103,7 @@ impl Word {
 }
 
 // Whether a figure is within the range of the word at place k.
+#[tactic(auto, unfolding(crate::specs::Words::ranged))]
 pub(crate) fn in_range(k: usize, v: u64) -> bool
     requires { k < 14 }
     ensures { result ≡ ranged k v }
