@@ -8,6 +8,7 @@ use banks::Bank;
 use basin::Basin;
 use lines::Line;
 use posting::{open, post_block};
+use refusals::Notice;
 use std::fs;
 use storages::{Storage, Tapped};
 
@@ -40,7 +41,7 @@ fn case_agrees(card: &[u8], feed: &[u8], lines: &[u8]) -> bool {
         Ok(mut basin) => feed_agrees(&mut basin, feed, lines),
         Err(refusal) => {
             let mut line = [0u8; 192];
-            match Line::Refused(refusal.notice()).write(&mut line) {
+            match Line::Refused(Notice::from(refusal)).write(&mut line) {
                 Ok(size) => lines == &line[0..size],
                 Err(_) => false,
             }

@@ -7,7 +7,7 @@ use crate::tally::{Granted, Tally};
 use anyhow::anyhow;
 use banks::{Bank, Pair, Plot};
 use basin::{Basin, Parcel};
-use refusals::Refusal;
+use refusals::{Notice, Refusal};
 use storages::{Recession, Tapped};
 
 mod tally;
@@ -30,11 +30,7 @@ const TOO_LARGE: &str = "the tally has grown too large";
 
 // Says why a call was refused.
 fn say_refused(rt: &HostRuntime, refusal: Refusal) -> anyhow::Result<()> {
-    let notice = refusal.notice();
-    println!(rt;
-        "  refused by rule {}, found in layer {}, at {}",
-        notice.number, notice.layer, notice.place
-    )?;
+    println!(rt; "  refused by {}", Notice::from(refusal))?;
     Ok(())
 }
 

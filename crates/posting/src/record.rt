@@ -9,7 +9,7 @@ use banks::Bank;
 use basin::Basin;
 use feed::Event;
 use lines::Line;
-use refusals::Refusal;
+use refusals::{Notice, Refusal};
 use storages::{Storage, Tapped};
 
 // Makes the call that a record asks for, and answers the line of what came of it.
@@ -30,14 +30,14 @@ fn answer<B: Bank, C: Tapped>(basin: &mut Basin<B, C>, bytes: &[u8]) -> Line
                 evaporated,
                 deep,
             },
-            Err(refusal) => Line::Refused(refusal.notice()),
+            Err(refusal) => Line::Refused(Notice::from(refusal)),
         },
         Ok(Event::Turn) => {
             let (streamflow, deep) = basin.turn();
             Line::Turn { streamflow, deep }
         }
         Ok(Event::Closing) => Line::Closing(basin.closing()),
-        Err(unread) => Line::Refused(unread.notice()),
+        Err(unread) => Line::Refused(Notice::from(unread)),
     }
 }
 

@@ -1,4 +1,5 @@
--- The number, layer and place of each refusal.
+-- The number, layer and place of each refusal, and how they are shown.
+use Rattle.std.specs.Prelude.{ℕ, List, ◌++◌, codes, decimal}
 use Rattle.refusals.specs.declared.Notice.{Notice}
 use Rattle.refusals.specs.declared.Refusal.{Refusal}
 use Rattle.refusals.specs.declared.Refusal.TheVariants.{CardLength, UnknownName, RepeatedName, NotANumber, OutOfRange, StorageFigure, JoinedContents, PlotFigure, TooManySegments, OpeningAboveCeiling, RecordLength, UnknownLetter, NotZero, NoSuchSegment, RainAboveLimit, DemandAboveLimit, StorageFull, BasinFull, BookFull, DrawAmount, EmptyParcel, ShortBuffer}
@@ -26,3 +27,6 @@ notice_of (BookFull k) = record { number = 19; layer = 5; place = k }
 notice_of DrawAmount = record { number = 20; layer = 3; place = 0 }
 notice_of EmptyParcel = record { number = 21; layer = 5; place = 0 }
 notice_of ShortBuffer = record { number = 22; layer = 5; place = 0 }
+
+abbrev pub shown : Notice → List ℕ
+shown n = codes "rule " ++ (decimal n.number ++ (codes ", found in layer " ++ (decimal n.layer ++ (codes ", at " ++ decimal n.place))))

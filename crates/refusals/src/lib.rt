@@ -1,8 +1,10 @@
 // Why a call is refused: one case for each rule that can be broken.
 #![tactic(auto)]
 
-ghost use Rattle.std.specs.Prelude.{◌≡◌};
-ghost use Rattle.refusals.specs.Notices.{notice_of};
+ghost use Rattle.std.specs.Prelude.{◌≡◌, Some};
+ghost use Rattle.refusals.specs.Notices.{notice_of, shown};
+
+use std::fmt;
 
 // A broken rule. A case that holds a number says where: an offset on a card or in a record, or a segment.
 #[derive(Clone, Copy, PartialEq, Eq, Debug)]
@@ -51,12 +53,12 @@ impl Notice {
     }
 }
 
-impl Refusal {
+impl From<Refusal> for Notice {
+    ghost from_gives = { λ f n. n ≡ notice_of f };
+
     // The number, layer and place by which a refusal is reported.
-    pub fn notice(self) -> Notice
-        ensures { result ≡ notice_of self }
-    {
-        match self {
+    fn from(refusal: Refusal) -> Notice {
+        match refusal {
             Refusal::CardLength => Notice::new(1, 2, 0),
             Refusal::UnknownName(at) => Notice::new(2, 2, at),
             Refusal::RepeatedName(at) => Notice::new(3, 2, at),
@@ -80,5 +82,17 @@ impl Refusal {
             Refusal::EmptyParcel => Notice::new(21, 5, 0),
             Refusal::ShortBuffer => Notice::new(22, 5, 0),
         }
+    }
+}
+
+impl fmt::Display for Notice {
+    ghost output = { λ n. Some (shown n) };
+
+    fn fmt<W: fmt::Write>(&self, f: &mut fmt::Formatter<W>) -> fmt::Result {
+        write!(
+            f,
+            "rule {}, found in layer {}, at {}",
+            self.number, self.layer, self.place
+        )
     }
 }

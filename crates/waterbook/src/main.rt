@@ -7,7 +7,7 @@ use banks::Bank;
 use basin::Basin;
 use lines::Line;
 use posting::{CardBasin, open, post_block};
-use refusals::Refusal;
+use refusals::{Notice, Refusal};
 use std::io::{Read, Write};
 use std::{fs, io};
 use storages::{Storage, Tapped};
@@ -69,7 +69,7 @@ fn opened(rt: &HostRuntime) -> Result<CardBasin, Refusal> {
 // Prints the line of a refused card.
 fn refuse<W: Write>(refusal: Refusal, output: &mut W) -> io::Result<()> {
     let mut page = [0u8; 192];
-    match Line::Refused(refusal.notice()).write(&mut page) {
+    match Line::Refused(Notice::from(refusal)).write(&mut page) {
         Ok(size) => output.write_all(&page[0..size]),
         Err(_) => unreachable(),
     }

@@ -3,7 +3,7 @@
 use banks::{Bank, Pair, Plot};
 use basin::{Basin, Parcel};
 use nesting::new_river;
-use refusals::Refusal;
+use refusals::{Notice, Refusal};
 use std::test::Fail;
 use storages::{Chain, Recession, Storage, Tapped};
 
@@ -13,7 +13,7 @@ const HALF: u64 = 524_288;
 fn number<T: Drop>(answer: Result<T, Refusal>) -> u64 {
     match answer {
         Ok(_) => 0,
-        Err(refusal) => refusal.notice().number,
+        Err(refusal) => Notice::from(refusal).number,
     }
 }
 
@@ -21,7 +21,7 @@ fn number<T: Drop>(answer: Result<T, Refusal>) -> u64 {
 fn booked(answer: Result<Parcel, Refusal>) -> (u64, u64) {
     match answer {
         Ok(parcel) => (parcel.book(), 0),
-        Err(refusal) => (0, refusal.notice().number),
+        Err(refusal) => (0, Notice::from(refusal).number),
     }
 }
 
