@@ -2,6 +2,7 @@
 #![tactic(auto)]
 
 pub mod curve;
+pub mod fraction;
 pub mod power;
 pub mod root;
 pub mod share;
@@ -9,6 +10,7 @@ pub mod share;
 #[cfg(test)]
 mod tests {
     use crate::curve::{groundwater_part, upper_zone_part};
+    use crate::fraction::Fraction;
     use crate::power::power;
     use crate::root::root;
     use crate::share::share;
@@ -32,6 +34,18 @@ mod tests {
         assert_eq!(rt;
             [power(0), power(8), power(96), power(255)],
             [65_536, 92_681, 4_194_304, 4_112_842_752]
+        );
+    }
+
+    #[test]
+    fn fractions_at_the_ends(rt: HostRuntime) {
+        assert_eq!(rt;
+            [
+                Fraction { parts: 0 }.of(u64::MAX),
+                Fraction { parts: 1_048_576 }.of(u64::MAX),
+                Fraction { parts: 524_288 }.of(3),
+            ],
+            [0, u64::MAX, 1]
         );
     }
 
