@@ -1,27 +1,10 @@
--- Steps along the knots of a curve, and where knots stand.
-use Rattle.std.proofs.Common.{◌≡◌, ℕ, zero, suc, ◌+◌, ◌-◌, ◌*◌, ◌/◌, ◌<◌, ◌≤◌, List, [], ◌∷◌, length, drop, sym, refl, ap, ◌∙◌, mul-zero, arith, rules}
+-- Where knots stand, and that a curve goes through them.
+use Rattle.std.proofs.Common.{◌≡◌, ℕ, zero, suc, ◌-◌, ◌*◌, ◌/◌, ◌<◌, List, [], ◌∷◌, length, refl, ◌∙◌, mul-zero, arith, rules}
 use native.Mathlib.Nat.{sub_self, zero-div}
-use Rattle.std.proofs.lemmas.List.{at_drop_more}
 use Rattle.std.proofs.lemmas.Bool.{lt-ltb, le-ltb, cond-true, cond-false}
 use Rattle.std.proofs.lemmas.Bool.Decides.{nat_tests}
-use Rattle.figures.specs.Curve.{along, at, between, curve, place, knot, upper_knots, ground_knots, Rises, Apart, Through}
+use Rattle.figures.specs.Curve.{along, at, between, curve, place, upper_knots, ground_knots, Rises, Apart, Through}
 use Rattle.figures.specs.declared.curve.Knot.{Knot}
-
--- knot i stands at q
-module _ (ks : List Knot) (i n z p v q : ℕ) (h : i < length ks) (e : q ≡ place n (at ks i)) where
-  -- z lies before it: on the straight piece to it
-  pub along_here : z < q → along n z p v (drop i ks) ≡ between p v q (at ks i).value z
-  along_here l =
-      let before : z < place n (at ks i) = omega arith in
-      at_drop_more (along n z p v) ks i (knot 0 0 0) h ∙ cond-true _ _ _ (lt-ltb z (place n (at ks i)) before)
-      ∙ ap (λ (m : ℕ). between p v m (at ks i).value z) (sym e)
-
-  -- z lies past it: on from it
-  pub along_past : q ≤ z → along n z p v (drop i ks) ≡ along n z q (at ks i).value (drop (i + 1) ks)
-  along_past l =
-      let past : place n (at ks i) ≤ z = omega arith in
-      at_drop_more (along n z p v) ks i (knot 0 0 0) h ∙ cond-false _ _ _ (le-ltb z (place n (at ks i)) past)
-      ∙ ap (λ (m : ℕ). along n z m (at ks i).value (drop (i + 1) ks)) (sym e)
 
 pub upper_apart : Apart 50000 2000000 upper_knots
 upper_apart n l h = search rules

@@ -53,19 +53,19 @@ mod tests {
     fn curves_at_the_ends(rt: HostRuntime) {
         assert_eq!(rt;
             [
-                upper_zone_part(1_000_000, 500_000),
-                groundwater_part(6_000_000, 2_000_000),
+                upper_zone_part(1_000_000, 500_000).parts,
+                groundwater_part(6_000_000, 2_000_000).parts,
             ],
             [1_019_449, 38_836]
         );
         assert_eq!(rt;
-            [upper_zone_part(0, 0), groundwater_part(0, 0)],
+            [upper_zone_part(0, 0).parts, groundwater_part(0, 0).parts],
             [134, 1_046_898]
         );
         assert_eq!(rt;
             [
-                upper_zone_part(u32::MAX, u32::MAX),
-                groundwater_part(u32::MAX, 0),
+                upper_zone_part(u32::MAX, u32::MAX).parts,
+                groundwater_part(u32::MAX, 0).parts,
             ],
             [990_321, 0]
         );

@@ -3,13 +3,14 @@ ghost use Rattle.std.specs.Prelude.{◌≡◌, ◌*◌, ◌/◌, ◌<◌, ◌≤
 ghost use Rattle.figures.specs.Share.{share_rule, Shared};
 
 // What is not taken of a supply up to b: x × x over twice b. It is halved after the quotient, since twice b may not fit.
+#[tactic(auto, using(crate::proofs::Parts::div_half, crate::proofs::Parts::part_le))]
 fn left(x: u32, b: u64) -> u32
     requires some { 0 < b }
     requires within { x ≤ b }
     ensures value { result ≡ x * x / (2 * b) }
     ensures part { result ≤ x }
 {
-    (x as u64 * x as u64 / b / 2) as u32
+    (u64::from(x) * u64::from(x) / b / 2) as u32
 }
 
 // The share by its rule.
@@ -18,7 +19,7 @@ fn taken(x: u32, b: u64) -> u32
 {
     if b == 0 {
         0
-    } else if x as u64 <= b {
+    } else if u64::from(x) <= b {
         x - left(x, b)
     } else {
         (b - b / 2) as u32
@@ -26,6 +27,7 @@ fn taken(x: u32, b: u64) -> u32
 }
 
 // The share of x at the greatest capacity b: a part of x that grows with the capacity.
+#[tactic(auto, using(crate::proofs::Shares::shared), unfolding(crate::specs::Share::share))]
 pub fn share(x: u32, b: u64) -> u32
     ensures { Shared x b result }
 {
