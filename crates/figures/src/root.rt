@@ -11,7 +11,7 @@ fn fits(c: u32, square: u64) -> bool
 }
 
 // The greatest number whose cube is at most the square, bit by bit from the highest: a bit stands where the cube
-// still fits with it. No cube of 64 bits has a root of more than 22.
+// still fits with it. A cube of 64 bits has a root of at most 22.
 fn cube_root(square: u64) -> u32
     ensures fits { cube result ≤ square }
     ensures past { square < cube (result + 1) }

@@ -13,9 +13,10 @@ fn left(x: u32, b: u64) -> u32
     (u64::from(x) * u64::from(x) / b / 2) as u32
 }
 
-// The share by its rule.
-fn taken(x: u32, b: u64) -> u32
-    ensures { result ≡ share_rule x b }
+// The share of x at the greatest capacity b: a part of x that grows with the capacity.
+#[tactic(auto, using(crate::proofs::Shares::shared), unfolding(crate::specs::Share::share))]
+pub fn share(x: u32, b: u64) -> u32
+    ensures { Shared x b result }
 {
     if b == 0 {
         0
@@ -24,12 +25,4 @@ fn taken(x: u32, b: u64) -> u32
     } else {
         (b - b / 2) as u32
     }
-}
-
-// The share of x at the greatest capacity b: a part of x that grows with the capacity.
-#[tactic(auto, using(crate::proofs::Shares::shared), unfolding(crate::specs::Share::share))]
-pub fn share(x: u32, b: u64) -> u32
-    ensures { Shared x b result }
-{
-    taken(x, b)
 }
