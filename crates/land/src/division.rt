@@ -49,8 +49,8 @@ pub(crate) fn divide(card: &Card, lower: u64, supply: u64) -> Division
     ensures balance { result.infiltration + result.interflow + result.slope ≡ supply }
 {
     let (soaks, reaches) = capacities(card, wetness(card, lower));
-    let infiltration = share(supply as u32, soaks) as u64;
-    let taken = share(supply as u32, reaches) as u64;
+    let infiltration = u64::from(share(supply as u32, soaks));
+    let taken = u64::from(share(supply as u32, reaches));
     Division {
         infiltration,
         interflow: taken - infiltration,

@@ -2,9 +2,9 @@
 ghost use Rattle.std.specs.Prelude.{◌≡◌, ◌+◌, ◌^◌, ◌≤◌};
 ghost use Rattle.land.specs.Hour.{opportunity_of, drying_of};
 
-use crate::parts::part;
 use crate::water::{Drying, Zones};
 use card::Card;
+use figures::fraction::Fraction;
 use figures::share::share;
 
 // The most that the lower zone could give up in an hour anywhere on the segment.
@@ -27,9 +27,11 @@ pub(crate) fn dry(card: &Card, wet: Zones, demand: u64) -> Drying
     let first = wet.interception.min(demand);
     let second = wet.upper.min(demand - first);
     let left = demand - first - second;
-    let third = wet
-        .lower
-        .min(share(left as u32, opportunity(card, wet.lower)) as u64);
+    let taken = share(left as u32, opportunity(card, wet.lower));
+    let third = wet.lower.min(u64::from(taken));
+    let groundwater = Fraction {
+        parts: card.groundwater_evapotranspiration(),
+    };
     Drying {
         zones: Zones {
             interception: wet.interception - first,
@@ -37,6 +39,6 @@ pub(crate) fn dry(card: &Card, wet: Zones, demand: u64) -> Drying
             lower: wet.lower - third,
         },
         evaporated: first + second + third,
-        demand: part(card.groundwater_evapotranspiration(), left - third),
+        demand: groundwater.of(left - third),
     }
 }

@@ -4,7 +4,6 @@ ghost use Rattle.land.specs.Hour.{kept_of, Hour, still, sent};
 
 use crate::division::divide;
 use crate::evaporation::dry;
-use crate::parts::part;
 use crate::seepage::seep;
 use crate::surface::reach_ground;
 use crate::water::{Flows, Zones};
@@ -14,14 +13,10 @@ use figures::curve::upper_zone_part;
 // What the upper zone keeps of slope water, by its content as the hour began.
 fn kept(card: &Card, upper: u64, slope: u64) -> u64
     requires upper { upper ≤ 100000000 }
-    requires slope { slope ≤ 100000000 }
     ensures value { result ≡ kept_of card.now upper slope }
     ensures less { result ≤ slope }
 {
-    part(
-        upper_zone_part(card.upper_nominal() as u32, upper as u32) as u64,
-        slope,
-    )
+    upper_zone_part(card.upper_nominal() as u32, upper as u32).of(slope)
 }
 
 // What an hour's rain and demand make of the zones, and what leaves them.

@@ -2,7 +2,6 @@
 ghost use Rattle.std.specs.Prelude.{◌≡◌, ◌+◌, ◌≤◌};
 ghost use Rattle.land.specs.Hour.{percolation_of, seepage_of};
 
-use crate::parts::part;
 use crate::water::Seepage;
 use card::Card;
 use figures::curve::groundwater_part;
@@ -31,10 +30,8 @@ pub(crate) fn seep(card: &Card, upper: u64, lower: u64, infiltration: u64) -> Se
 {
     let percolated = percolation(card, upper, lower);
     let sinking = infiltration + percolated;
-    let groundwater = part(
-        groundwater_part(card.lower_nominal() as u32, lower as u32) as u64,
-        sinking,
-    );
+    let groundwater =
+        groundwater_part(card.lower_nominal() as u32, lower as u32).of(sinking);
     Seepage {
         upper: upper - percolated,
         lower: lower + (sinking - groundwater),
