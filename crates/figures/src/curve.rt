@@ -100,20 +100,17 @@ impl Knot {
 // How much of a difference is gone after this way of a piece's length.
 #[tactic(auto, using(crate::proofs::Parts::part_le))]
 fn gone(difference: u64, way: u64, length: u64) -> u64
-    requires difference { difference ≤ 1048576 }
-    requires way { way < length }
-    requires content { way < 2 ^ 32 }
+    requires { way < length }
     ensures value { result ≡ difference * way / length }
     ensures part { result ≤ difference }
 {
-    difference * way / length
+    (u128::from(difference) * u128::from(way) / u128::from(length)) as u64
 }
 
 // The fraction at z on the straight piece between two points.
 fn on_piece(from: Point, to: Point, z: u64) -> Fraction
     requires before { from.place ≤ z }
     requires after { z < to.place }
-    requires content { z < 2 ^ 32 }
     ensures { result.parts ≡ between from.place from.value.parts to.place to.value.parts z }
 {
     let (v, w) = (from.value.parts, to.value.parts);
@@ -127,19 +124,18 @@ fn on_piece(from: Point, to: Point, z: u64) -> Fraction
 }
 
 // The fraction at a content, of the curve that begins with `first` at 0 and goes on by these knots.
-fn read(first: Fraction, knots: &[Knot], nominal: u32, content: u32) -> Fraction
+fn read(first: Fraction, knots: &[Knot], nominal: u32, content: u64) -> Fraction
     requires { Readable knots.now }
     ensures { result.parts ≡ curve_at nominal content first.parts knots.now }
 {
-    let z = u64::from(content);
     let mut last = Point {
         place: 0,
         value: first,
     };
     for knot in knots {
         let next = knot.point(nominal);
-        if z < next.place {
-            return on_piece(last, next, z);
+        if content < next.place {
+            return on_piece(last, next, content);
         }
         last = next;
     }
@@ -149,7 +145,7 @@ fn read(first: Fraction, knots: &[Knot], nominal: u32, content: u32) -> Fraction
 // The part of slope water that the upper zone keeps, by its content and its nominal content.
 // Its knots stand apart for every nominal content that a card may have, and the curve goes through them.
 #[tactic(auto, unfolding(crate::specs::Curve::upper_part))]
-pub fn upper_zone_part(nominal: u32, content: u32) -> Fraction
+pub fn upper_zone_part(nominal: u32, content: u64) -> Fraction
     ensures value { result.parts ≡ upper_part nominal content }
     ensures apart { Apart 50000 2000000 upper_knots }
     ensures through { Through 50000 2000000 1048576 upper_knots }
@@ -161,7 +157,7 @@ pub fn upper_zone_part(nominal: u32, content: u32) -> Fraction
 // The part of infiltration and percolation that goes to groundwater, by the lower zone's content and its nominal content.
 // Its knots stand apart for every nominal content that a card may have, and the curve goes through them.
 #[tactic(auto, unfolding(crate::specs::Curve::ground_part))]
-pub fn groundwater_part(nominal: u32, content: u32) -> Fraction
+pub fn groundwater_part(nominal: u32, content: u64) -> Fraction
     ensures value { result.parts ≡ ground_part nominal content }
     ensures apart { Apart 2000000 15000000 ground_knots }
     ensures through { Through 2000000 15000000 0 ground_knots }

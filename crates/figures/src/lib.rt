@@ -28,8 +28,12 @@ mod tests {
             [250, 250, 0]
         );
         assert_eq!(rt;
-            [share(u32::MAX, u64::MAX), share(u32::MAX, 1)],
-            [u32::MAX, 1]
+            [
+                share(u64::MAX, u64::MAX),
+                share(u64::MAX, 1),
+                share(u64::from(u32::MAX), u64::MAX)
+            ],
+            [1 << 63, 1, u64::from(u32::MAX)]
         );
         assert_eq!(rt;
             [power(0), power(8), power(96), power(255)],
@@ -64,10 +68,11 @@ mod tests {
         );
         assert_eq!(rt;
             [
-                upper_zone_part(u32::MAX, u32::MAX).parts,
+                upper_zone_part(u32::MAX, u64::from(u32::MAX)).parts,
+                upper_zone_part(u32::MAX, u64::MAX).parts,
                 groundwater_part(u32::MAX, 0).parts,
             ],
-            [990_321, 0]
+            [990_321, 134, 0]
         );
     }
 }

@@ -18,8 +18,7 @@ fn opportunity(card: &Card, lower: u64) -> u64
 
 // Each zone in its turn gives up what it can of the demand that is left.
 pub(crate) fn dry(card: &Card, wet: Zones, demand: u64) -> Drying
-    requires zones { wet.interception + wet.upper + wet.lower ≤ 100000000 }
-    requires demand { demand ≤ 100000000 }
+    requires { wet.lower ≤ 100000000 }
     ensures value { result ≡ drying_of card.now wet demand }
     ensures balance { result.zones.interception + result.zones.upper + result.zones.lower + result.evaporated ≡ wet.interception + wet.upper + wet.lower }
     ensures within { result.evaporated + result.demand ≤ demand }
@@ -27,8 +26,7 @@ pub(crate) fn dry(card: &Card, wet: Zones, demand: u64) -> Drying
     let first = wet.interception.min(demand);
     let second = wet.upper.min(demand - first);
     let left = demand - first - second;
-    let taken = share(left as u32, opportunity(card, wet.lower));
-    let third = wet.lower.min(u64::from(taken));
+    let third = wet.lower.min(share(left, opportunity(card, wet.lower)));
     let groundwater = Fraction {
         parts: card.groundwater_evapotranspiration(),
     };

@@ -31,7 +31,7 @@ pub(crate) fn seep(card: &Card, upper: u64, lower: u64, infiltration: u64) -> Se
     let percolated = percolation(card, upper, lower);
     let sinking = infiltration + percolated;
     let groundwater =
-        groundwater_part(card.lower_nominal() as u32, lower as u32).of(sinking);
+        groundwater_part(card.lower_nominal() as u32, lower).of(sinking);
     Seepage {
         upper: upper - percolated,
         lower: lower + (sinking - groundwater),
