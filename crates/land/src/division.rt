@@ -30,6 +30,7 @@ fn exponent(wetness: u8) -> u8
 }
 
 // The greatest capacity to infiltrate, and the greatest to infiltrate or pass to interflow.
+#[tactic(auto, using(crate::proofs::Bounds::power_32, crate::proofs::Bounds::ratio_product, crate::proofs::Bounds::reaches_product, crate::proofs::Bounds::soaks_reaches))]
 fn capacities(card: &Card, wetness: u8) -> (u64, u64)
     requires { wetness ≤ 32 }
     ensures soaks { result.0 ≡ capacity_of card.now wetness }

@@ -8,6 +8,7 @@ use figures::fraction::Fraction;
 use figures::share::share;
 
 // The most that the lower zone could give up in an hour anywhere on the segment.
+#[tactic(auto, using(crate::proofs::Bounds::opportune))]
 fn opportunity(card: &Card, lower: u64) -> u64
     requires { lower ≤ 100000000 }
     ensures value { result ≡ opportunity_of card.now lower }
