@@ -1,5 +1,5 @@
 -- The laws of the hour, part after part.
-use Rattle.std.proofs.Common.{◌≡◌, ℕ, ◌+◌, ◌-◌, ◌≤◌, min, refl, ap, mul-le-mul_right, arith}
+use Rattle.std.proofs.Common.{◌≡◌, ℕ, ◌+◌, ◌-◌, ◌≤◌, min, refl, mul-le-mul_right, arith}
 use native.Mathlib.Nat.{div-le_of_le-mul}
 use Rattle.figures.specs.Share.{share}
 use Rattle.figures.specs.Power.{power}
@@ -57,18 +57,11 @@ laws f z p e r h =
     let k = kept_law f z.upper h.division.slope h.kept h.keeps in
     let g = seepage_law f (z.upper + h.kept) z.lower h.division.infiltration h.seepage h.seeps in
     let y = drying_law f (record { interception = h.surface.interception; upper = h.seepage.upper; lower = h.seepage.lower }) e h.drying h.dries in
-    let r0 = ap (λ x. still x.zones) h.result in
-    let r1 = ap (λ x. x.runoff) h.result in
-    let r2 = ap (λ x. x.slope) h.result in
-    let r3 = ap (λ x. x.interflow) h.result in
-    let r4 = ap (λ x. x.groundwater) h.result in
-    let r5 = ap (λ x. x.evaporated) h.result in
-    let r6 = ap (λ x. x.demand) h.result in
     record {
-      rain = omega (arith, s.0, s.1, d.1, k);
+      rain = grind arith;
       slope = omega (arith, d.1);
       interflow = d.0;
       seepage = g.0;
-      evaporation = omega (arith, y.1);
-      balance = omega (arith, s.0, d.1, k, g.1, y.0);
+      evaporation = grind arith;
+      balance = grind arith;
     }
