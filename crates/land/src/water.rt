@@ -1,7 +1,7 @@
 // Amounts of one hour on a segment, as each part of it hands them on. All are depths in microinches.
 
 // What the land itself holds.
-#[derive(Clone, Copy)]
+#[derive(Clone, Copy, Default)]
 pub struct Zones {
     pub interception: u64,
     pub upper: u64,
