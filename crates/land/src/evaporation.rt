@@ -1,6 +1,6 @@
 // How the demand is met: from interception, then the upper zone, then the lower zone; a part of what is left goes on to groundwater.
 ghost use Rattle.std.specs.Prelude.{◌≡◌, ◌+◌, ◌^◌, ◌≤◌};
-ghost use Rattle.land.specs.Hour.{opportunity_of, drying_of};
+ghost use Rattle.land.specs.Hour.{opportunity_of, drying_of, still};
 
 use crate::water::{Drying, Zones};
 use card::Card;
@@ -21,7 +21,7 @@ fn opportunity(card: &Card, lower: u64) -> u64
 pub(crate) fn dry(card: &Card, wet: Zones, demand: u64) -> Drying
     requires { wet.lower ≤ 100000000 }
     ensures value { result ≡ drying_of card.now wet demand }
-    ensures balance { result.zones.interception + result.zones.upper + result.zones.lower + result.evaporated ≡ wet.interception + wet.upper + wet.lower }
+    ensures balance { still result.zones + result.evaporated ≡ still wet }
     ensures within { result.evaporated + result.demand ≤ demand }
 {
     let first = wet.interception.min(demand);
