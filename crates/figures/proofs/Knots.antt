@@ -1,27 +1,9 @@
--- Steps along the knots of a curve, and where knots stand.
-use Rattle.std.proofs.Common.{◌≡◌, ℕ, zero, suc, ◌+◌, ◌-◌, ◌*◌, ◌/◌, ◌<◌, ◌≤◌, List, [], ◌∷◌, length, drop, sym, refl, ap, ◌∙◌, mul-zero, arith, rules}
+-- Where knots stand, and that a curve goes through them.
+use Rattle.std.proofs.Common.{◌≡◌, ℕ, zero, suc, ◌-◌, ◌*◌, ◌/◌, ◌<◌, List, [], ◌∷◌, length, refl, mul-zero, arith, rules}
 use native.Mathlib.Nat.{sub_self, zero-div}
-use Rattle.std.proofs.lemmas.List.{at_drop_more}
-use Rattle.std.proofs.lemmas.Bool.{lt-ltb, le-ltb, cond-true, cond-false}
 use Rattle.std.proofs.lemmas.Bool.Decides.{nat_tests}
-use Rattle.figures.specs.Curve.{along, at, between, curve, place, knot, upper_knots, ground_knots, Rises, Apart, Through}
+use Rattle.figures.specs.Curve.{along, at, between, curve, place, upper_knots, ground_knots, Rises, Apart, Through}
 use Rattle.figures.specs.declared.curve.Knot.{Knot}
-
--- knot i stands at q
-module _ (ks : List Knot) (i n z p v q : ℕ) (h : i < length ks) (e : q ≡ place n (at ks i)) where
-  -- z lies before it: on the straight piece to it
-  pub along_here : z < q → along n z p v (drop i ks) ≡ between p v q (at ks i).value z
-  along_here l =
-      let before : z < place n (at ks i) = omega arith in
-      at_drop_more (along n z p v) ks i (knot 0 0 0) h ∙ cond-true _ _ _ (lt-ltb z (place n (at ks i)) before)
-      ∙ ap (λ (m : ℕ). between p v m (at ks i).value z) (sym e)
-
-  -- z lies past it: on from it
-  pub along_past : q ≤ z → along n z p v (drop i ks) ≡ along n z q (at ks i).value (drop (i + 1) ks)
-  along_past l =
-      let past : place n (at ks i) ≤ z = omega arith in
-      at_drop_more (along n z p v) ks i (knot 0 0 0) h ∙ cond-false _ _ _ (le-ltb z (place n (at ks i)) past)
-      ∙ ap (λ (m : ℕ). along n z m (at ks i).value (drop (i + 1) ks)) (sym e)
 
 pub upper_apart : Apart 50000 2000000 upper_knots
 upper_apart n l h = search rules
@@ -41,21 +23,22 @@ between_start p v p' w =
 -- a curve that stands at p has its value there
 along_start : (n p v : ℕ) (ks : List Knot) → Rises n p ks → along n p p v ks ≡ v
 along_start n p v [] r = refl
-along_start n p v (k ∷ ks) r = cond-true _ _ _ (lt-ltb p (place n k) r.0) ∙ between_start p v (place n k) k.value
+along_start n p v (k ∷ ks) r = let s = between_start p v (place n k) k.value in grind (arith, nat_tests)
 
 -- every knot ahead stands past p
 ahead : (n p : ℕ) (ks : List Knot) → Rises n p ks → (i : ℕ) → i < length ks → p < place n (at ks i)
 ahead n p [] r i h = omega arith
 ahead n p (k ∷ ks) r zero h = r.0
-ahead n p (k ∷ ks) r (suc i) h = let l = ahead n (place n k) ks r.1 i (omega arith) in let m = r.0 in omega arith
+ahead n p (k ∷ ks) r (suc i) h = let l = ahead n (place n k) ks r.1 i (omega arith) in omega arith
 
 -- a curve has a knot's value where that knot stands
 along_through : (n p v : ℕ) (ks : List Knot) → Rises n p ks → (i : ℕ) → i < length ks → along n (place n (at ks i)) p v ks ≡ (at ks i).value
 along_through n p v [] r i h = absurd (omega arith)
-along_through n p v (k ∷ ks) r zero h = cond-false _ _ _ (le-ltb (place n k) (place n k) (omega arith)) ∙ along_start n (place n k) k.value ks r.1
+along_through n p v (k ∷ ks) r zero h = let s = along_start n (place n k) k.value ks r.1 in grind (arith, nat_tests)
 along_through n p v (k ∷ ks) r (suc i) h =
     let l = ahead n (place n k) ks r.1 i (omega arith) in
-    cond-false _ _ _ (le-ltb (place n (at ks i)) (place n k) (omega arith)) ∙ along_through n (place n k) k.value ks r.1 i (omega arith)
+    let t = along_through n (place n k) k.value ks r.1 i (omega arith) in
+    grind (arith, nat_tests)
 
 -- from its beginning through every knot
 through : (n v : ℕ) (ks : List Knot) → Rises n 0 ks

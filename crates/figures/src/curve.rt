@@ -2,12 +2,21 @@
 ghost use Rattle.std.specs.Prelude.{◌≡◌, ◌*◌, ◌/◌, ◌^◌, ◌<◌, ◌≤◌};
 ghost use Rattle.figures.specs.Curve.{place as place_of, between, curve as curve_at, upper_part, ground_part, upper_knots, ground_knots, Readable, Apart, Through};
 
+use crate::fraction::Fraction;
+
 // A value, in parts of 1,048,576, at a multiple of the nominal content.
 #[derive(Clone, Copy)]
 struct Knot {
     multiple: u32,
     denominator: u32,
     value: u32,
+}
+
+// Where a curve stands: a content, and the fraction there.
+#[derive(Clone, Copy)]
+struct Point {
+    place: u64,
+    value: Fraction,
 }
 
 const UPPER: [Knot; 6] = [
@@ -71,97 +80,88 @@ const GROUND: [Knot; 5] = [
     },
 ];
 
-// Where a knot stands for a nominal content: the multiple first, then the quotient.
-fn place(knot: Knot, nominal: u32) -> u64
-    requires { 1 ≤ knot.denominator }
-    ensures { result ≡ place_of nominal knot }
-{
-    knot.multiple as u64 * nominal as u64 / knot.denominator as u64
+impl Knot {
+    // Where the knot stands for a nominal content: the multiple first, then the quotient.
+    fn point(self, nominal: u32) -> Point
+        requires divisor { 1 ≤ self.denominator }
+        requires part { self.value ≤ 1048576 }
+        ensures place { result.place ≡ place_of nominal self }
+        ensures value { result.value.parts ≡ self.value }
+    {
+        Point {
+            place: u64::from(self.multiple) * u64::from(nominal) / u64::from(self.denominator),
+            value: Fraction {
+                parts: u64::from(self.value),
+            },
+        }
+    }
 }
 
 // How much of a difference is gone after this way of a piece's length.
+#[tactic(auto, using(crate::proofs::Parts::part_le))]
 fn gone(difference: u64, way: u64, length: u64) -> u64
-    requires difference { difference ≤ 1048576 }
-    requires way { way < length }
-    requires content { way < 2 ^ 32 }
+    requires { way < length }
     ensures value { result ≡ difference * way / length }
     ensures part { result ≤ difference }
 {
-    difference * way / length
+    (u128::from(difference) * u128::from(way) / u128::from(length)) as u64
 }
 
-// The value at z on the straight piece from v at p to w at q.
-fn on_piece(p: u64, v: u64, q: u64, w: u64, z: u64) -> u64
-    requires before { p ≤ z }
-    requires after { z < q }
-    requires content { z < 2 ^ 32 }
-    requires from { v ≤ 1048576 }
-    requires to { w ≤ 1048576 }
-    ensures value { result ≡ between p v q w z }
-    ensures part { result ≤ 1048576 }
+// The fraction at z on the straight piece between two points.
+fn on_piece(from: Point, to: Point, z: u64) -> Fraction
+    requires before { from.place ≤ z }
+    requires after { z < to.place }
+    ensures { result.parts ≡ between from.place from.value.parts to.place to.value.parts z }
 {
-    if v <= w {
-        v + gone(w - v, z - p, q - p)
+    let (v, w) = (from.value.parts, to.value.parts);
+    let (way, length) = (z - from.place, to.place - from.place);
+    let parts = if v <= w {
+        v + gone(w - v, way, length)
     } else {
-        v - gone(v - w, z - p, q - p)
-    }
+        v - gone(v - w, way, length)
+    };
+    Fraction { parts }
 }
 
-// The value at a content, of the curve that begins with `first` at 0 and goes on by these knots.
-fn read(first: u64, knots: &[Knot], nominal: u32, content: u32) -> u32
-    requires first { first ≤ 1048576 }
-    requires knots { Readable knots.now }
-    ensures value { result ≡ curve_at nominal content first knots.now }
-    ensures part { result ≤ 1048576 }
+// The fraction at a content, of the curve that begins with `first` at 0 and goes on by these knots.
+fn read(first: Fraction, knots: &[Knot], nominal: u32, content: u64) -> Fraction
+    requires { Readable knots.now }
+    ensures { result.parts ≡ curve_at nominal content first.parts knots.now }
 {
-    let z = content as u64;
-    let mut last = 0;
-    let mut value = first;
+    let mut last = Point {
+        place: 0,
+        value: first,
+    };
     for knot in knots {
-        let next = place(*knot, nominal);
-        if z < next {
-            return on_piece(last, value, next, knot.value as u64, z) as u32;
+        let next = knot.point(nominal);
+        if content < next.place {
+            return on_piece(last, next, content);
         }
         last = next;
-        value = knot.value as u64;
     }
-    value as u32
-}
-
-// The upper zone's curve.
-fn upper(nominal: u32, content: u32) -> u32
-    ensures value { result ≡ curve_at nominal content 1048576 upper_knots }
-    ensures part { result ≤ 1048576 }
-{
-    read(1_048_576, &UPPER, nominal, content)
-}
-
-// The lower zone's curve.
-fn ground(nominal: u32, content: u32) -> u32
-    ensures value { result ≡ curve_at nominal content 0 ground_knots }
-    ensures part { result ≤ 1048576 }
-{
-    read(0, &GROUND, nominal, content)
+    last.value
 }
 
 // The part of slope water that the upper zone keeps, by its content and its nominal content.
 // Its knots stand apart for every nominal content that a card may have, and the curve goes through them.
-pub fn upper_zone_part(nominal: u32, content: u32) -> u32
-    ensures value { result ≡ upper_part nominal content }
-    ensures part { result ≤ 1048576 }
+#[tactic(auto, unfolding(crate::specs::Curve::upper_part))]
+pub fn upper_zone_part(nominal: u32, content: u64) -> Fraction
+    ensures value { result.parts ≡ upper_part nominal content }
     ensures apart { Apart 50000 2000000 upper_knots }
     ensures through { Through 50000 2000000 1048576 upper_knots }
 {
-    upper(nominal, content)
+    let whole = Fraction { parts: 1_048_576 };
+    read(whole, &UPPER, nominal, content)
 }
 
 // The part of infiltration and percolation that goes to groundwater, by the lower zone's content and its nominal content.
 // Its knots stand apart for every nominal content that a card may have, and the curve goes through them.
-pub fn groundwater_part(nominal: u32, content: u32) -> u32
-    ensures value { result ≡ ground_part nominal content }
-    ensures part { result ≤ 1048576 }
+#[tactic(auto, unfolding(crate::specs::Curve::ground_part))]
+pub fn groundwater_part(nominal: u32, content: u64) -> Fraction
+    ensures value { result.parts ≡ ground_part nominal content }
     ensures apart { Apart 2000000 15000000 ground_knots }
     ensures through { Through 2000000 15000000 0 ground_knots }
 {
-    ground(nominal, content)
+    let none = Fraction { parts: 0 };
+    read(none, &GROUND, nominal, content)
 }

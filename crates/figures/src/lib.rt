@@ -10,6 +10,7 @@ pub mod share;
 #[cfg(test)]
 mod tests {
     use crate::curve::{groundwater_part, upper_zone_part};
+    use crate::fraction::Fraction;
     use crate::power::power;
     use crate::root::root;
     use crate::share::share;
@@ -27,8 +28,12 @@ mod tests {
             [250, 250, 0]
         );
         assert_eq!(rt;
-            [share(u32::MAX, u64::MAX), share(u32::MAX, 1)],
-            [u32::MAX, 1]
+            [
+                share(u64::MAX, u64::MAX),
+                share(u64::MAX, 1),
+                share(u64::from(u32::MAX), u64::MAX)
+            ],
+            [1 << 63, 1, u64::from(u32::MAX)]
         );
         assert_eq!(rt;
             [power(0), power(8), power(96), power(255)],
@@ -37,24 +42,37 @@ mod tests {
     }
 
     #[test]
+    fn fractions_at_the_ends(rt: HostRuntime) {
+        assert_eq!(rt;
+            [
+                Fraction { parts: 0 }.of(u64::MAX),
+                Fraction { parts: 1_048_576 }.of(u64::MAX),
+                Fraction { parts: 524_288 }.of(3),
+            ],
+            [0, u64::MAX, 1]
+        );
+    }
+
+    #[test]
     fn curves_at_the_ends(rt: HostRuntime) {
         assert_eq!(rt;
             [
-                upper_zone_part(1_000_000, 500_000),
-                groundwater_part(6_000_000, 2_000_000),
+                upper_zone_part(1_000_000, 500_000).parts,
+                groundwater_part(6_000_000, 2_000_000).parts,
             ],
             [1_019_449, 38_836]
         );
         assert_eq!(rt;
-            [upper_zone_part(0, 0), groundwater_part(0, 0)],
+            [upper_zone_part(0, 0).parts, groundwater_part(0, 0).parts],
             [134, 1_046_898]
         );
         assert_eq!(rt;
             [
-                upper_zone_part(u32::MAX, u32::MAX),
-                groundwater_part(u32::MAX, 0),
+                upper_zone_part(u32::MAX, u64::from(u32::MAX)).parts,
+                upper_zone_part(u32::MAX, u64::MAX).parts,
+                groundwater_part(u32::MAX, 0).parts,
             ],
-            [990_321, 0]
+            [990_321, 134, 0]
         );
     }
 }

@@ -13,7 +13,7 @@ fn sixteenth(k: u8) -> u64
     requires { k < 16 }
     ensures { result ≡ entry k }
 {
-    SIXTEENTHS[k as usize]
+    SIXTEENTHS[usize::from(k)]
 }
 
 // 65,536 times two to the power e / 16, by the table, whose rule holds of every entry.

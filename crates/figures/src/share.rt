@@ -2,32 +2,27 @@
 ghost use Rattle.std.specs.Prelude.{◌≡◌, ◌*◌, ◌/◌, ◌<◌, ◌≤◌};
 ghost use Rattle.figures.specs.Share.{share_rule, Shared};
 
-// What is not taken of a supply up to b: x × x over twice b. It is halved after the quotient, since twice b may not fit.
-fn left(x: u32, b: u64) -> u32
+// What is not taken of a supply up to b: x × x over twice b.
+#[tactic(auto, using(crate::proofs::Parts::part_le))]
+fn left(x: u64, b: u64) -> u64
     requires some { 0 < b }
     requires within { x ≤ b }
     ensures value { result ≡ x * x / (2 * b) }
     ensures part { result ≤ x }
 {
-    (x as u64 * x as u64 / b / 2) as u32
-}
-
-// The share by its rule.
-fn taken(x: u32, b: u64) -> u32
-    ensures { result ≡ share_rule x b }
-{
-    if b == 0 {
-        0
-    } else if x as u64 <= b {
-        x - left(x, b)
-    } else {
-        (b - b / 2) as u32
-    }
+    (u128::from(x) * u128::from(x) / (2 * u128::from(b))) as u64
 }
 
 // The share of x at the greatest capacity b: a part of x that grows with the capacity.
-pub fn share(x: u32, b: u64) -> u32
+#[tactic(auto, using(crate::proofs::Shares::shared), unfolding(crate::specs::Share::share))]
+pub fn share(x: u64, b: u64) -> u64
     ensures { Shared x b result }
 {
-    taken(x, b)
+    if b == 0 {
+        0
+    } else if x <= b {
+        x - left(x, b)
+    } else {
+        b - b / 2
+    }
 }

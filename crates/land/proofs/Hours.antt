@@ -1,5 +1,5 @@
 -- The laws of the hour, part after part.
-use Rattle.std.proofs.Common.{◌≡◌, ℕ, ◌+◌, ◌-◌, ◌≤◌, min, refl, ap, mul-le-mul_right, arith}
+use Rattle.std.proofs.Common.{◌≡◌, ℕ, ◌+◌, ◌-◌, ◌≤◌, min, refl, mul-le-mul_right, arith}
 use native.Mathlib.Nat.{div-le_of_le-mul}
 use Rattle.figures.specs.Share.{share}
 use Rattle.figures.specs.Power.{power}
@@ -27,45 +27,28 @@ order f m h =
     soaks_reaches f.infilt f.intfw (power (exponent_of m)) (power m) f.infilt_range.1 f.intfw_range.0 f.intfw_range.1 (powered (exponent_of m) (power (exponent_of m)) refl).least (powered m (power m) refl).least g
 
 surface_law : (f : Card) (c p : ℕ) (s : Surface) → s ≡ surface_of f c p → (s.runoff + s.interception + s.supply ≡ c + p) × (c ≤ s.interception)
-surface_law f c p s e =
-    let a = ap (λ x. x.runoff) e in
-    let b = ap (λ x. x.interception) e in
-    let d = ap (λ x. x.supply) e in
-    let q = parts_le f.impv p f.impv_range in
-    (omega arith, omega arith)
+surface_law f c p s e = let q = parts_le f.impv p f.impv_range in (grind arith, grind arith)
 
 division_law : (f : Card) (l x : ℕ) (d : Division) → d ≡ division_of f l x → (d.infiltration + d.interflow ≡ share x (reach_of f (wetness_of f l))) × (d.infiltration + d.interflow + d.slope ≡ x)
 division_law f l x d e =
-    let a = ap (λ y. y.infiltration) e in
-    let b = ap (λ y. y.interflow) e in
-    let c = ap (λ y. y.slope) e in
     let g = share_grows x (capacity_of f (wetness_of f l)) (reach_of f (wetness_of f l)) (order f (wetness_of f l) (omega arith)) in
     let h = share_le x (reach_of f (wetness_of f l)) in
-    (omega arith, omega arith)
+    (grind arith, grind arith)
 
 kept_law : (f : Card) (u s k : ℕ) → k ≡ kept_of f u s → k ≤ s
 kept_law f u s k e = let q = parts_le (upper_part f.uzsn u) s (upper_most f.uzsn u) in omega arith
 
 seepage_law : (f : Card) (u l w : ℕ) (g : Seepage) → g ≡ seepage_of f u l w → (g.groundwater + g.lower ≡ w + percolation_of f u l + l) × (g.upper + g.lower + g.groundwater ≡ u + l + w)
 seepage_law f u l w g e =
-    let a = ap (λ y. y.upper) e in
-    let b = ap (λ y. y.lower) e in
-    let c = ap (λ y. y.groundwater) e in
     let q = parts_le (ground_part f.lzsn l) (w + percolation_of f u l) (ground_most f.lzsn l) in
-    (omega arith, omega arith)
+    (grind arith, grind arith)
 
 drying_law : (f : Card) (z : Zones) (e : ℕ) (d : Drying) → d ≡ drying_of f z e → (still d.zones + d.evaporated ≡ still z) × (d.evaporated + d.demand ≤ e)
 drying_law f z e d h =
-    let a = ap (λ y. y.zones.interception) h in
-    let b = ap (λ y. y.zones.upper) h in
-    let c = ap (λ y. y.zones.lower) h in
-    let v = ap (λ y. y.evaporated) h in
-    let m = ap (λ y. y.demand) h in
     let left : ℕ = e - min z.interception e - min z.upper (e - min z.interception e) in
     let s = share_le left (opportunity_of f z.lower) in
-    let agwetp : f.agwetp ≤ 1048576 = omega (arith, f.agwetp_range) in
-    let q = parts_le f.agwetp (left - third_of f z e) agwetp in
-    (omega arith, omega arith)
+    let q = parts_le f.agwetp (left - third_of f z e) (omega (arith, f.agwetp_range)) in
+    (grind arith, grind arith)
 
 pub laws : HourLaws
 laws f z p e r h =
@@ -74,18 +57,11 @@ laws f z p e r h =
     let k = kept_law f z.upper h.division.slope h.kept h.keeps in
     let g = seepage_law f (z.upper + h.kept) z.lower h.division.infiltration h.seepage h.seeps in
     let y = drying_law f (record { interception = h.surface.interception; upper = h.seepage.upper; lower = h.seepage.lower }) e h.drying h.dries in
-    let r0 = ap (λ x. still x.zones) h.result in
-    let r1 = ap (λ x. x.runoff) h.result in
-    let r2 = ap (λ x. x.slope) h.result in
-    let r3 = ap (λ x. x.interflow) h.result in
-    let r4 = ap (λ x. x.groundwater) h.result in
-    let r5 = ap (λ x. x.evaporated) h.result in
-    let r6 = ap (λ x. x.demand) h.result in
     record {
-      rain = omega (arith, s.0, s.1, d.1, k);
+      rain = grind arith;
       slope = omega (arith, d.1);
       interflow = d.0;
       seepage = g.0;
-      evaporation = omega (arith, y.1);
-      balance = omega (arith, s.0, d.1, k, g.1, y.0);
+      evaporation = grind arith;
+      balance = grind arith;
     }

@@ -8,16 +8,16 @@ use figures::power::power;
 use figures::share::share;
 
 // How wet the lower zone is: sixteenths of its nominal content, at most 32.
-fn wetness(card: &Card, lower: u64) -> u64
+fn wetness(card: &Card, lower: u64) -> u8
     requires { lower ≤ 100000000 }
     ensures value { result ≡ wetness_of card.now lower }
     ensures most { result ≤ 32 }
 {
-    (16 * lower / card.lower_nominal()).min(32)
+    (16 * lower / card.lower_nominal()).min(32) as u8
 }
 
 // By how many sixteenths of a power of two the capacity to infiltrate has fallen.
-fn exponent(wetness: u64) -> u64
+fn exponent(wetness: u8) -> u8
     requires { wetness ≤ 32 }
     ensures value { result ≡ exponent_of wetness }
     ensures most { result ≤ 96 }
@@ -30,27 +30,27 @@ fn exponent(wetness: u64) -> u64
 }
 
 // The greatest capacity to infiltrate, and the greatest to infiltrate or pass to interflow.
-fn capacities(card: &Card, wetness: u64) -> (u64, u64)
+#[tactic(auto, using(crate::proofs::Bounds::power_32, crate::proofs::Bounds::ratio_product, crate::proofs::Bounds::reaches_product, crate::proofs::Bounds::soaks_reaches))]
+fn capacities(card: &Card, wetness: u8) -> (u64, u64)
     requires { wetness ≤ 32 }
     ensures soaks { result.0 ≡ capacity_of card.now wetness }
     ensures reaches { result.1 ≡ reach_of card.now wetness }
     ensures order { result.0 ≤ result.1 }
 {
-    let soaks = 32 * card.infiltration() * 65_536 / power(exponent(wetness) as u8);
-    let reaches = card.interflow_ratio() * power(wetness as u8) / 100 * soaks / 65_536;
+    let soaks = 32 * card.infiltration() * 65_536 / power(exponent(wetness));
+    let reaches = card.interflow_ratio() * power(wetness) / 100 * soaks / 65_536;
     (soaks, reaches)
 }
 
 // Divides the supply by the lower zone as the hour began.
 pub(crate) fn divide(card: &Card, lower: u64, supply: u64) -> Division
-    requires lower { lower ≤ 100000000 }
-    requires supply { supply ≤ 100000000 }
+    requires { lower ≤ 100000000 }
     ensures value { result ≡ division_of card.now lower supply }
     ensures balance { result.infiltration + result.interflow + result.slope ≡ supply }
 {
     let (soaks, reaches) = capacities(card, wetness(card, lower));
-    let infiltration = share(supply as u32, soaks) as u64;
-    let taken = share(supply as u32, reaches) as u64;
+    let infiltration = share(supply, soaks);
+    let taken = share(supply, reaches);
     Division {
         infiltration,
         interflow: taken - infiltration,

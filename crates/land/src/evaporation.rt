@@ -1,13 +1,14 @@
 // How the demand is met: from interception, then the upper zone, then the lower zone; a part of what is left goes on to groundwater.
 ghost use Rattle.std.specs.Prelude.{◌≡◌, ◌+◌, ◌^◌, ◌≤◌};
-ghost use Rattle.land.specs.Hour.{opportunity_of, drying_of};
+ghost use Rattle.land.specs.Hour.{opportunity_of, drying_of, still};
 
-use crate::parts::part;
 use crate::water::{Drying, Zones};
 use card::Card;
+use figures::fraction::Fraction;
 use figures::share::share;
 
 // The most that the lower zone could give up in an hour anywhere on the segment.
+#[tactic(auto, using(crate::proofs::Bounds::opportune))]
 fn opportunity(card: &Card, lower: u64) -> u64
     requires { lower ≤ 100000000 }
     ensures value { result ≡ opportunity_of card.now lower }
@@ -18,18 +19,18 @@ fn opportunity(card: &Card, lower: u64) -> u64
 
 // Each zone in its turn gives up what it can of the demand that is left.
 pub(crate) fn dry(card: &Card, wet: Zones, demand: u64) -> Drying
-    requires zones { wet.interception + wet.upper + wet.lower ≤ 100000000 }
-    requires demand { demand ≤ 100000000 }
+    requires { wet.lower ≤ 100000000 }
     ensures value { result ≡ drying_of card.now wet demand }
-    ensures balance { result.zones.interception + result.zones.upper + result.zones.lower + result.evaporated ≡ wet.interception + wet.upper + wet.lower }
+    ensures balance { still result.zones + result.evaporated ≡ still wet }
     ensures within { result.evaporated + result.demand ≤ demand }
 {
     let first = wet.interception.min(demand);
     let second = wet.upper.min(demand - first);
     let left = demand - first - second;
-    let third = wet
-        .lower
-        .min(share(left as u32, opportunity(card, wet.lower)) as u64);
+    let third = wet.lower.min(share(left, opportunity(card, wet.lower)));
+    let groundwater = Fraction {
+        parts: card.groundwater_evapotranspiration(),
+    };
     Drying {
         zones: Zones {
             interception: wet.interception - first,
@@ -37,6 +38,6 @@ pub(crate) fn dry(card: &Card, wet: Zones, demand: u64) -> Drying
             lower: wet.lower - third,
         },
         evaporated: first + second + third,
-        demand: part(card.groundwater_evapotranspiration(), left - third),
+        demand: groundwater.of(left - third),
     }
 }

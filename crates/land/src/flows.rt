@@ -4,7 +4,6 @@ ghost use Rattle.land.specs.Hour.{kept_of, Hour, still, sent};
 
 use crate::division::divide;
 use crate::evaporation::dry;
-use crate::parts::part;
 use crate::seepage::seep;
 use crate::surface::reach_ground;
 use crate::water::{Flows, Zones};
@@ -13,21 +12,15 @@ use figures::curve::upper_zone_part;
 
 // What the upper zone keeps of slope water, by its content as the hour began.
 fn kept(card: &Card, upper: u64, slope: u64) -> u64
-    requires upper { upper ≤ 100000000 }
-    requires slope { slope ≤ 100000000 }
     ensures value { result ≡ kept_of card.now upper slope }
     ensures less { result ≤ slope }
 {
-    part(
-        upper_zone_part(card.upper_nominal() as u32, upper as u32) as u64,
-        slope,
-    )
+    upper_zone_part(card.upper_nominal() as u32, upper).of(slope)
 }
 
 // What an hour's rain and demand make of the zones, and what leaves them.
 pub(crate) fn flows(card: &Card, zones: Zones, rain: u64, demand: u64) -> Flows
-    requires room { still zones + rain ≤ 100000000 }
-    requires demand { demand ≤ 100000000 }
+    requires { still zones + rain ≤ 100000000 }
     ensures hour { Hour card.now zones rain demand result }
     ensures balance { still result.zones + sent result ≡ still zones + rain }
     ensures within { result.evaporated + result.demand ≤ demand }

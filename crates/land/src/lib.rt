@@ -4,7 +4,6 @@
 mod division;
 mod evaporation;
 mod flows;
-mod parts;
 mod seepage;
 mod segment;
 mod surface;

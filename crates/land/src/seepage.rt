@@ -2,12 +2,12 @@
 ghost use Rattle.std.specs.Prelude.{◌≡◌, ◌+◌, ◌≤◌};
 ghost use Rattle.land.specs.Hour.{percolation_of, seepage_of};
 
-use crate::parts::part;
 use crate::water::Seepage;
 use card::Card;
 use figures::curve::groundwater_part;
 
 // What percolates where the upper zone is the wetter, by the cube of the difference.
+#[tactic(auto, using(crate::proofs::Bounds::percolated))]
 pub(crate) fn percolation(card: &Card, upper: u64, lower: u64) -> u64
     requires upper { upper ≤ 100000000 }
     requires lower { lower ≤ 100000000 }
@@ -31,10 +31,7 @@ pub(crate) fn seep(card: &Card, upper: u64, lower: u64, infiltration: u64) -> Se
 {
     let percolated = percolation(card, upper, lower);
     let sinking = infiltration + percolated;
-    let groundwater = part(
-        groundwater_part(card.lower_nominal() as u32, lower as u32) as u64,
-        sinking,
-    );
+    let groundwater = groundwater_part(card.lower_nominal() as u32, lower).of(sinking);
     Seepage {
         upper: upper - percolated,
         lower: lower + (sinking - groundwater),

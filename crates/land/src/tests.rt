@@ -45,9 +45,8 @@ fn an_hour_with_a_pencil(rt: HostRuntime) -> Result<(), Fail> {
 fn a_dry_hour_asks_the_lower_zone(rt: HostRuntime) -> Result<(), Fail> {
     let card = card::check(&NAPA)?;
     let zones = Zones {
-        interception: 0,
-        upper: 0,
         lower: 6_000_000,
+        ..Zones::default()
     };
     let hour = flows(&card, zones, 0, 4_908);
     assert_eq!(rt;

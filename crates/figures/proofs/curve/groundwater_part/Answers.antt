@@ -1,8 +1,9 @@
--- The curve of groundwater.
-use Rattle.figures.specs.Curve.{ground_part}
+-- The knots of groundwater.
 use Rattle.figures.proofs.Knots.{ground_apart, ground_through}
 use Rattle.figures.proofs.curve.groundwater_part.Goals as goal
 
-pub returns : goal.returns
-unfolding ground_part
-returns c = record { value = c.ground.ensures.value; part = c.ground.ensures.part; apart = ground_apart; through = ground_through }
+pub returns-clause-apart : goal.returns-clause-apart
+returns-clause-apart c = ground_apart
+
+pub returns-clause-through : goal.returns-clause-through
+returns-clause-through c = ground_through

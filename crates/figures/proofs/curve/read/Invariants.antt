@@ -4,6 +4,7 @@ use Rattle.figures.specs.Curve.{curve, along}
 use Rattle.figures.proofs.curve.read.Given as goal
 
 abbrev pub invariant-loop-knot : goal.invariant-loop-knot
-invariant-loop-knot l =
-    (curve l.nominal l.z l.first l.knots ≡ along l.nominal l.z l.last l.value (drop l.knot-index l.knots))
-    × (l.last ≤ l.z) × (l.value ≤ 1048576)
+invariant-loop-knot l = record {
+  rest : curve l.nominal l.content l.fn.first.parts l.knots ≡ along l.nominal l.content l.last.place l.last.value.parts (drop l.knot-index l.knots);
+  past : l.last.place ≤ l.content;
+}
