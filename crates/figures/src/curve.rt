@@ -7,8 +7,8 @@ use crate::fraction::Fraction;
 // A value, in parts of 1,048,576, at a multiple of the nominal content.
 #[derive(Clone, Copy)]
 struct Knot {
-    multiple: u32,
-    denominator: u32,
+    multiple: u8,
+    denominator: u8,
     value: u32,
 }
 
@@ -17,6 +17,7 @@ struct Knot {
 struct Point {
     place: u64,
     value: Fraction,
+    ghost near: { place < 2 ^ 40 },
 }
 
 const UPPER: [Knot; 6] = [
@@ -98,13 +99,14 @@ impl Knot {
 }
 
 // How much of a difference is gone after this way of a piece's length.
-#[tactic(auto, using(crate::proofs::Parts::part_le))]
 fn gone(difference: u64, way: u64, length: u64) -> u64
-    requires { way < length }
+    requires difference { difference ≤ 1048576 }
+    requires way { way < length }
+    requires length { length < 2 ^ 40 }
     ensures value { result ≡ difference * way / length }
     ensures part { result ≤ difference }
 {
-    (u128::from(difference) * u128::from(way) / u128::from(length)) as u64
+    difference * way / length
 }
 
 // The fraction at z on the straight piece between two points.

@@ -28,12 +28,8 @@ mod tests {
             [250, 250, 0]
         );
         assert_eq!(rt;
-            [
-                share(u64::MAX, u64::MAX),
-                share(u64::MAX, 1),
-                share(u64::from(u32::MAX), u64::MAX)
-            ],
-            [1 << 63, 1, u64::from(u32::MAX)]
+            [share(u32::MAX, u64::MAX), share(u32::MAX, 1)],
+            [u32::MAX, 1]
         );
         assert_eq!(rt;
             [power(0), power(8), power(96), power(255)],

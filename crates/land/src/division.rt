@@ -44,13 +44,14 @@ fn capacities(card: &Card, wetness: u8) -> (u64, u64)
 
 // Divides the supply by the lower zone as the hour began.
 pub(crate) fn divide(card: &Card, lower: u64, supply: u64) -> Division
-    requires { lower ≤ 100000000 }
+    requires lower { lower ≤ 100000000 }
+    requires supply { supply ≤ 100000000 }
     ensures value { result ≡ division_of card.now lower supply }
     ensures balance { result.infiltration + result.interflow + result.slope ≡ supply }
 {
     let (soaks, reaches) = capacities(card, wetness(card, lower));
-    let infiltration = share(supply, soaks);
-    let taken = share(supply, reaches);
+    let infiltration = u64::from(share(supply as u32, soaks));
+    let taken = u64::from(share(supply as u32, reaches));
     Division {
         infiltration,
         interflow: taken - infiltration,

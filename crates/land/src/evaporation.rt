@@ -19,7 +19,8 @@ fn opportunity(card: &Card, lower: u64) -> u64
 
 // Each zone in its turn gives up what it can of the demand that is left.
 pub(crate) fn dry(card: &Card, wet: Zones, demand: u64) -> Drying
-    requires { wet.lower ≤ 100000000 }
+    requires lower { wet.lower ≤ 100000000 }
+    requires demand { demand ≤ 100000000 }
     ensures value { result ≡ drying_of card.now wet demand }
     ensures balance { still result.zones + result.evaporated ≡ still wet }
     ensures within { result.evaporated + result.demand ≤ demand }
@@ -27,7 +28,8 @@ pub(crate) fn dry(card: &Card, wet: Zones, demand: u64) -> Drying
     let first = wet.interception.min(demand);
     let second = wet.upper.min(demand - first);
     let left = demand - first - second;
-    let third = wet.lower.min(share(left, opportunity(card, wet.lower)));
+    let asked = share(left as u32, opportunity(card, wet.lower));
+    let third = wet.lower.min(u64::from(asked));
     let groundwater = Fraction {
         parts: card.groundwater_evapotranspiration(),
     };

@@ -20,7 +20,8 @@ fn kept(card: &Card, upper: u64, slope: u64) -> u64
 
 // What an hour's rain and demand make of the zones, and what leaves them.
 pub(crate) fn flows(card: &Card, zones: Zones, rain: u64, demand: u64) -> Flows
-    requires { still zones + rain ≤ 100000000 }
+    requires room { still zones + rain ≤ 100000000 }
+    requires demand { demand ≤ 100000000 }
     ensures hour { Hour card.now zones rain demand result }
     ensures balance { still result.zones + sent result ≡ still zones + rain }
     ensures within { result.evaporated + result.demand ≤ demand }

@@ -5,6 +5,6 @@ use Rattle.figures.proofs.curve.read.Given as goal
 
 abbrev pub invariant-loop-knot : goal.invariant-loop-knot
 invariant-loop-knot l = record {
-  rest : curve l.nominal l.content l.fn.first.parts l.knots ≡ along l.nominal l.content l.last.place l.last.value.parts (drop l.knot-index l.knots);
-  past : l.last.place ≤ l.content;
+  rest : curve l.nominal l.content l.fn.first.parts l.knots ≡ along l.nominal l.content l.last.0 l.last.1.0.parts (drop l.knot-index l.knots);
+  past : l.last.0 ≤ l.content;
 }
