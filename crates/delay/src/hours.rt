@@ -3,27 +3,17 @@ ghost use Rattle.std.specs.Prelude.{◌≡◌, ℕ, ◌+◌, ◌-◌, ◌*◌, �
 ghost use Rattle.storages.specs.Meaning.{top, whole};
 ghost use Rattle.delay.specs.Hours.{longest, padded as padded_with, added, nearer, drained as drained_by};
 
+use figures::fraction::Fraction;
+
 // The most weights that a delay may have.
 pub(crate) const LONGEST: usize = 24;
 
-// How much of an inflow falls to this much of the weights.
-fn fallen(inflow: u64, weight: u64) -> u64
-    requires inflow { inflow ≤ top }
-    requires weight { weight ≤ whole }
-    ensures value { result ≡ inflow * weight / whole }
-    ensures grows { (w : ℕ) → w ≤ weight → inflow * w / whole ≤ result }
-{
-    inflow * weight / 1_048_576
-}
-
 // The portion of an inflow between two sums of weights: a difference of quotients, so that all portions add up to the inflow.
-fn portion(inflow: u64, before: u64, after: u64) -> u64
-    requires inflow { inflow ≤ top }
-    requires ordered { before ≤ after }
-    requires weight { after ≤ whole }
-    ensures { result ≡ inflow * after / whole - inflow * before / whole }
+fn portion(inflow: u64, before: Fraction, after: Fraction) -> u64
+    requires { before.parts ≤ after.parts }
+    ensures { result ≡ inflow * after.parts / whole - inflow * before.parts / whole }
 {
-    fallen(inflow, after) - fallen(inflow, before)
+    after.of(inflow) - before.of(inflow)
 }
 
 // The sum of the weights, or the greatest number of 64 bits where it is more.
@@ -56,9 +46,11 @@ pub(crate) fn spread(hours: [u64; LONGEST], weights: &[u64; LONGEST], inflow: u6
     ensures total { sum result ≡ sum hours + inflow }
 {
     let mut full = hours;
-    let mut before = 0;
-    for j in 0..LONGEST {
-        let after = before + weights[j];
+    let mut before = Fraction { parts: 0 };
+    for (j, weight) in weights.iter().enumerate() {
+        let after = Fraction {
+            parts: before.parts + *weight,
+        };
         full[j] += portion(inflow, before, after);
         before = after;
     }
@@ -84,9 +76,9 @@ pub(crate) fn drained(hours: [u64; LONGEST], amount: u64) -> [u64; LONGEST]
 {
     let mut rest = hours;
     let mut left = amount;
-    for j in 0..LONGEST {
-        let taken = left.min(rest[j]);
-        rest[j] -= taken;
+    for hour in rest.iter_mut() {
+        let taken = left.min(*hour);
+        *hour -= taken;
         left -= taken;
     }
     rest

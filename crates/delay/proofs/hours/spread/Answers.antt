@@ -18,17 +18,11 @@ overflow_add-after c =
     let all = first_le c.args.weights.now (c.loop-j.j + 1) in
     omega arith
 
-pub portion-requires : goal.portion-requires
-portion-requires c =
-    let more = first_more c.args.weights.now c.loop-j.j (omega arith) in
-    let all = first_le c.args.weights.now (c.loop-j.j + 1) in
-    record { inflow = omega arith; ordered = omega arith; weight = omega arith }
-
 pub overflow_add-full : goal.overflow_add-full
 overflow_add-full c =
     let v : ℕ = c.args.inflow in
     let j : ℕ = c.loop-j.j in
-    let after : ℕ = c.loop-j.before + get_or c.args.weights.now j 0 in
+    let after : ℕ = c.loop-j.before.0 + get_or c.args.weights.now j 0 in
     let more = first_more c.args.weights.now j (omega arith) in
     let all = first_le c.args.weights.now (j + 1) in
     let part = part_le v after whole (omega arith) in
@@ -43,9 +37,9 @@ loop-j-preserved c =
     let hs = c.args.hours in
     let full = c.loop-j.full in
     let j : ℕ = c.loop-j.j in
-    let more : c.loop-j.before + get_or ws j 0 ≡ first ws (j + 1) = omega (arith, first_more ws j (omega arith)) in
+    let more : c.loop-j.before.0 + get_or ws j 0 ≡ first ws (j + 1) = omega (arith, first_more ws j (omega arith)) in
     let gain : c.portion.result ≡ portion v whole ws j =
-    c.portion.ensures ∙ ap (λ (n : ℕ). v * n / whole - v * c.loop-j.before / whole) more ∙ ap (λ (n : ℕ). v * first ws (j + 1) / whole - v * n / whole) c.loop-j.invariant.0 in
+    c.portion.ensures ∙ ap (λ (n : ℕ). v * n / whole - v * c.loop-j.before.0 / whole) more ∙ ap (λ (n : ℕ). v * first ws (j + 1) / whole - v * n / whole) c.loop-j.invariant.0 in
     let same = c.loop-j.invariant.3 j (omega arith) in
     let y : ℕ = get_or full j 0 + c.portion.result in (
       more,

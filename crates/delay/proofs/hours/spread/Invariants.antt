@@ -7,7 +7,7 @@ use Rattle.delay.proofs.hours.spread.Given as goal
 
 abbrev pub invariant-loop-j : goal.invariant-loop-j
 invariant-loop-j l =
-    (l.before ≡ first l.weights l.j)
+    (l.before.0 ≡ first l.weights l.j)
     × (length l.full ≡ longest)
     × ((k : ℕ) → k < l.j → get_or l.full k 0 ≡ get_or l.initial.full k 0 + portion l.inflow whole l.weights k)
     × ((k : ℕ) → l.j ≤ k → get_or l.full k 0 ≡ get_or l.initial.full k 0)
