@@ -106,16 +106,14 @@ impl<B: Bank, C: Tapped> Basin<B, C> {
         ensures rains { Rains (view B.Bank C.Storage self.old) segment depth demand result (view B.Bank C.Storage self.new) }
         ensures moved { RainMoved B.Bank C.Storage self.old segment depth demand result self.new }
     {
-        match self.bank.rain(segment, depth, demand) {
-            Ok((release, evaporated, deep)) => {
-                self.pocket += release * area;
-                self.sums.rain += depth * area;
-                self.sums.evaporated += evaporated * area;
-                self.sums.deep += deep * area;
-                (release * area, evaporated * area, deep * area)
-            }
-            Err(_) => unreachable(),
-        }
+        let Ok((release, evaporated, deep)) = self.bank.rain(segment, depth, demand) else {
+            unreachable()
+        };
+        self.pocket += release * area;
+        self.sums.rain += depth * area;
+        self.sums.evaporated += evaporated * area;
+        self.sums.deep += deep * area;
+        (release * area, evaporated * area, deep * area)
     }
 
     // The channel takes the pocket: answers streamflow and deep loss.
@@ -194,8 +192,8 @@ fn take<S: Storage>(storage: &mut S, inflow: u64) -> (u64, u64)
     ensures balance { S.Storage.holds storage.new + result.0 + result.1 ≡ S.Storage.holds storage.old + inflow }
     ensures ceiling { S.Storage.limit storage.new ≡ S.Storage.limit storage.old }
 {
-    match storage.step(inflow, 0) {
-        Ok((release, _evaporated, deep)) => (release, deep),
-        Err(_) => unreachable(),
-    }
+    let Ok((release, _evaporated, deep)) = storage.step(inflow, 0) else {
+        unreachable()
+    };
+    (release, deep)
 }

@@ -1,8 +1,9 @@
 -- A line written into a part of a page, and the part of a block that is a record.
-use Rattle.std.proofs.Common.{◌≡◌, ℕ, ◌+◌, ◌-◌, ◌≤◌, min, List, [], ◌∷◌, ◌++◌, length, take, drop, Ok, Err, Result, sym, refl, ap, ◌∙◌, ⊎_elim, append_assoc, arith, length-append, length-drop, length-take, MatchResult}
+use Rattle.std.proofs.Common.{◌≡◌, ℕ, ◌+◌, ◌-◌, ◌≤◌, min, List, [], ◌∷◌, ◌++◌, length, take, drop, Ok, Err, Result, sym, refl, ap, ◌∙◌, ⊎_elim, append_assoc, subst, arith, length-append, length-drop, length-take, MatchResult}
 use borrow.Rule.Slice.PartMut.{put_mid}
 use Rattle.std.proofs.lemmas.List.{append-nil, drop_all, drop-drop, take_all, take_at, drop_at, take_rest}
 use Rattle.std.proofs.lemmas.Bool.{cases_lt}
+use Rattle.refusals.specs.Limits.{Limit, Answers}
 use Rattle.refusals.specs.Notices.{notice_of}
 use Rattle.refusals.specs.declared.Refusal.{Refusal}
 use Rattle.storages.specs.declared.meaning.Storage as storage
@@ -37,6 +38,10 @@ module _ (page buf line : List ℕ) (at k : ℕ) (room : at ≤ length page) (lo
 
   pub written_rest : drop (at + k) (put_mid at (length page - at) page buf) ≡ drop (at + k) page
   written_rest = ap (drop (at + k)) whole ∙ drop_at (take at page ++ line) (drop (at + k) page) (at + k) size
+
+-- what holds of a granted answer
+pub granted : {T : Type 0} (ls : List Limit) (r : Result T Refusal) (P : T → Type 0) (K : Type 0) (x : T) → Answers ls r P K → r ≡ Ok x → P x
+granted ls r P K x a e = (subst (λ (q : Result _ Refusal). Answers ls q P K) e a).1
 
 empty : (xs : List ℕ) → length xs ≡ 0 → xs ≡ []
 empty [] e = refl

@@ -24,38 +24,20 @@ pub type CardBasin = Basin<Plot<Land>, Recession>;
 fn land_of(card: Card) -> Land
     ensures { Dry card result }
 {
-    let Ok(slope) = Slope::new(card.overland_rate()) else {
-        unreachable()
-    };
-    let Ok(interflow) = Recession::new(card.interflow_rate(), 100_000_000) else {
-        unreachable()
-    };
-    let Ok(groundwater) = Recession::new(card.groundwater_rate(), 100_000_000) else {
-        unreachable()
-    };
-    let Ok(leak) = Leak::new(card.deep_fraction(), groundwater) else {
-        unreachable()
-    };
-    let Ok(land) = Segment::new(card, slope, interflow, leak) else {
-        unreachable()
-    };
-    land
+    let slope = Slope::new(card.overland_rate()).unwrap();
+    let interflow = Recession::new(card.interflow_rate(), 100_000_000).unwrap();
+    let groundwater = Recession::new(card.groundwater_rate(), 100_000_000).unwrap();
+    let leak = Leak::new(card.deep_fraction(), groundwater).unwrap();
+    Segment::new(card, slope, interflow, leak).unwrap()
 }
 
 // The basin of a checked card.
 fn basin_of(card: Card) -> CardBasin
     ensures { Opened card result }
 {
-    let Ok(plot) = Plot::new(land_of(card), card.area()) else {
-        unreachable()
-    };
-    let Ok(channel) = Recession::new(card.channel_rate(), 8_000_000_000_000) else {
-        unreachable()
-    };
-    let Ok(basin) = Basin::open(plot, channel) else {
-        unreachable()
-    };
-    basin
+    let plot = Plot::new(land_of(card), card.area()).unwrap();
+    let channel = Recession::new(card.channel_rate(), 8_000_000_000_000).unwrap();
+    Basin::open(plot, channel).unwrap()
 }
 
 // Checks a card and opens its basin. Whatever feed is posted on it, the lines are those of a run of calls, and the law of the book holds of them.

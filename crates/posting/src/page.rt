@@ -25,10 +25,7 @@ fn post_at<B: Bank, C: Tapped>(
     requires { at + 192 ≤ length page.old }
     ensures { Put (view B.Bank C.Storage basin.old) bytes.now page.old at result page.new (view B.Bank C.Storage basin.new) }
 {
-    let Ok(size) = post(basin, bytes, &mut page[at..]) else {
-        unreachable()
-    };
-    size
+    post(basin, bytes, &mut page[at..]).unwrap()
 }
 
 // Posts every record of a block, and answers how many bytes of lines stand at the front of the page. The last record may be short.

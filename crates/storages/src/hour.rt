@@ -15,6 +15,5 @@ pub fn hour<A: Storage>(
     ensures bounded { A.Storage.limit storage.old ≤ top }
     ensures answers { Answers (step_limits (A.Storage.holds storage.old) (A.Storage.limit storage.old) inflow) result (λ o. A.Storage.steps storage.old inflow demand o storage.new × Stepped (A.Storage.holds storage.old) (A.Storage.limit storage.old) inflow demand o (A.Storage.holds storage.new) (A.Storage.limit storage.new)) (storage.new ≡ storage.old) }
 {
-    let answer = storage.step(inflow, demand)?;
-    Ok(answer)
+    storage.step(inflow, demand)
 }

@@ -26,10 +26,8 @@ fn booked(answer: Result<Parcel, Refusal>) -> (u64, u64) {
 }
 
 // A plot of ten acres over a recession of one half.
-macro_rules! plot {
-    ($ceiling:expr) => {
-        Plot::new(Recession::new(HALF, $ceiling)?, 10)?
-    };
+fn plot(ceiling: u64) -> Result<Plot<Recession>, Refusal> {
+    Plot::new(Recession::new(HALF, ceiling)?, 10)
 }
 
 #[test]
@@ -58,7 +56,7 @@ fn opening_above_the_ceiling_is_refused(rt: HostRuntime) -> Result<(), Fail> {
 
 #[test]
 fn every_call_is_granted(rt: HostRuntime) -> Result<(), Fail> {
-    let mut basin = Basin::open(plot!(1_000), Recession::new(HALF, 100_000)?)?;
+    let mut basin = Basin::open(plot(1_000)?, Recession::new(HALF, 100_000)?)?;
     assert_eq!(rt; basin.rain(0, 1_000, 100)?, (4_500, 1_000, 0));
     assert_eq!(rt; basin.turn(), (2_250, 0));
     assert_eq!(rt; booked(basin.draw(250)), (250, 0));
@@ -74,7 +72,7 @@ fn every_call_is_granted(rt: HostRuntime) -> Result<(), Fail> {
 
 #[test]
 fn rains_and_draws_refuse(rt: HostRuntime) -> Result<(), Fail> {
-    let bank = Pair::new(plot!(1_000), plot!(1_000))?;
+    let bank = Pair::new(plot(1_000)?, plot(1_000)?)?;
     let mut basin = Basin::open(bank, Recession::new(HALF, 12_000)?)?;
     assert_eq!(rt; number(basin.rain(2, 0, 0)), 14);
     assert_eq!(rt; number(basin.rain(1, 15_000_001, 0)), 15);
@@ -91,7 +89,7 @@ fn rains_and_draws_refuse(rt: HostRuntime) -> Result<(), Fail> {
 // Pours a parcel into a basin twice; the second time it is empty.
 #[test]
 fn a_parcel_is_poured_once(rt: HostRuntime) -> Result<(), Fail> {
-    let mut basin = Basin::open(plot!(1_000), Recession::new(HALF, 12_000)?)?;
+    let mut basin = Basin::open(plot(1_000)?, Recession::new(HALF, 12_000)?)?;
     assert_eq!(rt; number(basin.rain(0, 1_000, 0)), 0);
     let _ = basin.turn();
     let mut parcel = basin.draw(1_000)?;
@@ -105,7 +103,7 @@ fn a_parcel_is_poured_once(rt: HostRuntime) -> Result<(), Fail> {
 #[test]
 fn a_river_opens_a_basin(rt: HostRuntime) -> Result<(), Fail> {
     let river = new_river(HALF, HALF, &[HALF, HALF], 0, 100_000)?;
-    let mut basin = Basin::open(plot!(1_000), river)?;
+    let mut basin = Basin::open(plot(1_000)?, river)?;
     assert_eq!(rt; number(basin.rain(0, 1_000, 0)), 0);
     assert_eq!(rt; basin.turn(), (625, 0));
     assert_eq!(rt; basin.question().held, 9_375);

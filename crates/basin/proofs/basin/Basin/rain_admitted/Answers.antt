@@ -28,18 +28,18 @@ overflow_add-self g c =
     let b = g.met.C.Storage.bounded c.args.self.now.channel in
     omega (arith, a.1.1.1.1.0)
 
-pub overflow_add-self-in-Ok-2 : goal.overflow_add-self-in-Ok-2
-overflow_add-self-in-Ok-2 g c =
-    let m = moved g (goal.at.overflow_add-self-in-Ok-2 g c).In-Ok in
-    let f = fall_is g (goal.at.overflow_add-self-in-Ok-2 g c).In-Ok in
+pub overflow_add-self-3 : goal.overflow_add-self-3
+overflow_add-self-3 g c =
+    let m = moved g (goal.at.overflow_add-self-3 g c).In-Ok in
+    let f = fall_is g (goal.at.overflow_add-self-3 g c).In-Ok in
     let a = c.requires.limits in
     let b = g.met.C.Storage.bounded c.args.self.now.channel in
     omega (arith, a.1.1.1.1.0, c.args.self.now.even, c.args.self.now.opening, c.args.self.now.fits)
 
-pub overflow_add-self-in-Ok-3 : goal.overflow_add-self-in-Ok-3
-overflow_add-self-in-Ok-3 g c =
-    let m = moved g (goal.at.overflow_add-self-in-Ok-3 g c).In-Ok in
-    let f = fall_is g (goal.at.overflow_add-self-in-Ok-3 g c).In-Ok in
+pub overflow_add-self-4 : goal.overflow_add-self-4
+overflow_add-self-4 g c =
+    let m = moved g (goal.at.overflow_add-self-4 g c).In-Ok in
+    let f = fall_is g (goal.at.overflow_add-self-4 g c).In-Ok in
     let a = c.requires.limits in
     let b = g.met.C.Storage.bounded c.args.self.now.channel in
     omega (arith, a.1.1.1.1.0, c.args.self.now.even, c.args.self.now.opening, c.args.self.now.fits)
