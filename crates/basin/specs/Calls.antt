@@ -21,13 +21,17 @@ fall v k depth = depth * (at v.tracts k).area
 abbrev pub over : ℕ → Out → Out
 over area o = (o.0 * area, o.1 * area, o.2 * area)
 
+-- new water fits the basin, whose ceiling is its channel's, and the book
+abbrev pub water_limits : View → (water place : ℕ) → List Limit
+water_limits v water place = limit (held v + water) v.ceiling (BasinFull place)
+    ∷ limit (v.sums.rain + v.sums.poured + water) page (BookFull place) ∷ []
+
 abbrev pub rain_limits : View → (k depth demand : ℕ) → List Limit
 rain_limits v k depth demand = limit (k + 1) (length v.tracts) (NoSuchSegment k)
     ∷ limit depth 15000000 (RainAboveLimit k)
     ∷ limit demand 1000000 (DemandAboveLimit k)
     ∷ limit ((at v.tracts k).content + depth) (at v.tracts k).ceiling (StorageFull k)
-    ∷ limit (held v + fall v k depth) v.ceiling (BasinFull k)
-    ∷ limit (v.sums.rain + v.sums.poured + fall v k depth) page (BookFull k) ∷ []
+    ∷ water_limits v (fall v k depth) k
 
 pub record Rains (v : View) (k depth demand : ℕ) (o : Out) (w : View) : Type 0 where
   pub depths : Out
@@ -58,9 +62,7 @@ pub record Draws (v : View) (n : ℕ) (p : Parcel) (w : View) : Type 0 where
   pub sums : w.sums ≡ added (areas v.tracts) (by_draw n (Ok p)) v.sums
 
 abbrev pub pour_limits : View → ℕ → List Limit
-pour_limits v n = limit 1 n EmptyParcel
-    ∷ limit (held v + n) v.ceiling (BasinFull 0)
-    ∷ limit (v.sums.rain + v.sums.poured + n) page (BookFull 0) ∷ []
+pour_limits v n = limit 1 n EmptyParcel ∷ water_limits v n 0
 
 pub record Pours (v : View) (n : ℕ) (w : View) : Type 0 where
   pub tracts : w.tracts ≡ v.tracts

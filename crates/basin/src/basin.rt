@@ -4,7 +4,7 @@ ghost use Rattle.refusals.specs.Limits.{Answers, Kept};
 ghost use Rattle.storages.specs.Meaning.{Out, top};
 ghost use Rattle.banks.specs.Rows.{at, volume};
 ghost use Rattle.basin.specs.Law.{held, New, Law, Even, page, by_rain, by_turn, by_draw, by_pour, by_closing, by_question};
-ghost use Rattle.basin.specs.Calls.{Called, Rains, opening_limits, rain_limits};
+ghost use Rattle.basin.specs.Calls.{Called, Rains, opening_limits, rain_limits, water_limits};
 
 use crate::book::{Book, Sums};
 use crate::parcel::Parcel;
@@ -75,14 +75,21 @@ impl<B: Bank, C: Tapped> Basin<B, C> {
         if depth > tract.ceiling - tract.content {
             return Err(Refusal::StorageFull(segment));
         }
-        let fall = depth * tract.area;
-        if fall > self.channel.ceiling() - self.held() {
-            return Err(Refusal::BasinFull(segment));
-        }
-        if fall > PAGE - (self.sums.rain + self.sums.poured) {
-            return Err(Refusal::BookFull(segment));
-        }
+        self.admit_water(depth * tract.area, segment)?;
         Ok(tract.area)
+    }
+
+    // The checks of new water: the basin's ceiling, and then the book's limit.
+    fn admit_water(&self, water: u64, place: u64) -> Result<(), Refusal>
+        ensures { Answers (water_limits (view B.Bank C.Storage self.now) water place) result (λ _. Unit {0}) (Unit {0}) }
+    {
+        if water > self.channel.ceiling() - self.held() {
+            return Err(Refusal::BasinFull(place));
+        }
+        if water > PAGE - (self.sums.rain + self.sums.poured) {
+            return Err(Refusal::BookFull(place));
+        }
+        Ok(())
     }
 
     // Rain on one segment: answers what ran off, evaporated and was lost deep, as volumes. What ran off joins the pocket.
@@ -152,12 +159,7 @@ impl<B: Bank, C: Tapped> Basin<B, C> {
         if amount == 0 {
             return Err(Refusal::EmptyParcel);
         }
-        if amount > self.channel.ceiling() - self.held() {
-            return Err(Refusal::BasinFull(0));
-        }
-        if amount > PAGE - (self.sums.rain + self.sums.poured) {
-            return Err(Refusal::BookFull(0));
-        }
+        self.admit_water(amount, 0)?;
         self.pocket += amount;
         self.sums.poured += amount;
         parcel.amount = 0;
