@@ -102,7 +102,7 @@ impl Knot {
 fn gone(difference: u64, way: u64, length: u64) -> u64
     requires difference { difference ≤ 1048576 }
     requires way { way < length }
-    requires length { length < 2 ^ 40 }
+    requires content { way < 2 ^ 40 }
     ensures value { result ≡ difference * way / length }
     ensures part { result ≤ difference }
 {
