@@ -6,7 +6,7 @@ use Rattle.irrigation.specs.declared.tally.Granted.{Granted}
 use Rattle.irrigation.specs.declared.tally.Granted.TheVariants.{Rain, Turn, Draw, Pour}
 
 abbrev pub added_by : Granted → Sums → Sums
-added_by (Rain area depth volumes) s = added (area ∷ []) (by_rain 0 depth 0 (Ok volumes)) s
+added_by (Rain area depth runoff evaporated deep) s = added (area ∷ []) (by_rain 0 depth 0 (Ok (runoff, evaporated, deep))) s
 added_by (Turn streamflow deep) s = added [] (by_turn streamflow deep) s
 added_by (Draw n) s = added [] (by_draw n (Ok (record { amount = n }))) s
 added_by (Pour n) s = added [] (by_pour n (Ok tt)) s

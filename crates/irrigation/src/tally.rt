@@ -8,8 +8,17 @@ use basin::Sums;
 // A call that was granted, with its answer: rain on so many acres, a turn, a draw, a pour.
 #[derive(Clone, Copy)]
 pub enum Granted {
-    Rain(u64, u64, (u64, u64, u64)),
-    Turn(u64, u64),
+    Rain {
+        area: u64,
+        depth: u64,
+        runoff: u64,
+        evaporated: u64,
+        deep: u64,
+    },
+    Turn {
+        streamflow: u64,
+        deep: u64,
+    },
     Draw(u64),
     Pour(u64),
 }
@@ -74,12 +83,18 @@ fn add(sums: Sums, call: Granted) -> Option<Sums>
 {
     let mut sums = sums;
     match call {
-        Granted::Rain(area, depth, (_runoff, evaporated, deep)) => {
+        Granted::Rain {
+            area,
+            depth,
+            evaporated,
+            deep,
+            ..
+        } => {
             sums.rain = sums.rain.checked_add(depth.checked_mul(area)?)?;
             sums.evaporated = sums.evaporated.checked_add(evaporated)?;
             sums.deep = sums.deep.checked_add(deep)?;
         }
-        Granted::Turn(streamflow, deep) => {
+        Granted::Turn { streamflow, deep } => {
             sums.streamflow = sums.streamflow.checked_add(streamflow)?;
             sums.deep = sums.deep.checked_add(deep)?;
         }
