@@ -1,7 +1,7 @@
 // The clerk's own tally: sums of the calls and their answers, kept without a look at the basin.
-ghost use Rattle.std.specs.Prelude.{◌≡◌, ℕ, IfSome};
+ghost use Rattle.std.specs.Prelude.{◌≡◌, ℕ, ◌+◌, ◌<◌, ◌^◌, ◌↔◌, IfSome, IsSome};
 ghost use Rattle.basin.specs.Law.{fresh};
-ghost use Rattle.irrigation.specs.Tallies.{added_by, closed_by};
+ghost use Rattle.irrigation.specs.Tallies.{added_by, closed_by, Fits};
 
 use basin::Sums;
 
@@ -43,7 +43,8 @@ impl Tally {
 
     // One granted call more. None where a sum grows too large.
     pub fn add(self, call: Granted) -> Option<Tally>
-        ensures { IfSome result (λ t. (t.whole ≡ added_by call self.whole) × (t.since ≡ added_by call self.since)) }
+        ensures fits { IsSome result ↔ (Fits (added_by call self.whole) × Fits (added_by call self.since)) }
+        ensures value { IfSome result (λ t. (t.whole ≡ added_by call self.whole) × (t.since ≡ added_by call self.since)) }
     {
         Some(Tally {
             whole: add(self.whole, call)?,
@@ -51,9 +52,10 @@ impl Tally {
         })
     }
 
-    // A closing: the sums since the last one begin anew with what they leave to be held.
+    // A closing: the sums since the last one begin anew with what they leave to be held. None where what came grows too large.
     pub fn close(self) -> Option<Tally>
-        ensures { IfSome result (λ t. (t.whole ≡ self.whole) × (t.since ≡ closed_by self.since)) }
+        ensures fits { IsSome result ↔ (self.since.opening + self.since.rain + self.since.poured < 2 ^ 64) }
+        ensures value { IfSome result (λ t. (t.whole ≡ self.whole) × (t.since ≡ closed_by self.since)) }
     {
         let Sums {
             opening,
@@ -77,9 +79,10 @@ impl Tally {
     }
 }
 
-// A granted call, added to sums.
+// A granted call, added to sums. None where one grows too large.
 fn add(sums: Sums, call: Granted) -> Option<Sums>
-    ensures { IfSome result (λ s. s ≡ added_by call sums) }
+    ensures fits { IsSome result ↔ Fits (added_by call sums) }
+    ensures value { IfSome result (λ s. s ≡ added_by call sums) }
 {
     let mut sums = sums;
     match call {
