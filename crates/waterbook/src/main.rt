@@ -9,6 +9,7 @@ use lines::Line;
 use posting::{CardBasin, open, post_block};
 use refusals::Refusal;
 use std::io::{Read, Write};
+use std::rt::Files;
 use std::{fs, io};
 use storages::{Storage, Tapped};
 
@@ -43,12 +44,13 @@ fn run<B: Bank, C: Tapped, R: Read, W: Write>(
 ) -> io::Result<()> {
     let mut block = [0u8; BLOCK];
     let mut page = [0u8; PAGE];
+    // An input may have no end, so the blocks are counted.
     for _ in 0..u64::MAX {
         let got = fill(input, &mut block)?;
-        match post_block(basin, &block[0..got], &mut page) {
-            Ok(size) => output.write_all(&page[0..size])?,
-            Err(_) => unreachable(),
-        }
+        let Ok(size) = post_block(basin, &block[..got], &mut page) else {
+            unreachable()
+        };
+        output.write_all(&page[..size])?;
         if got < BLOCK {
             break;
         }
@@ -56,36 +58,36 @@ fn run<B: Bank, C: Tapped, R: Read, W: Write>(
     Ok(())
 }
 
+// Reads card.dat; answers how many bytes came.
+fn read_card(rt: &impl Files, card: &mut [u8]) -> io::Result<usize>
+    ensures { IfOk result (λ n. n ≤ length card.old) }
+{
+    let mut file = fs::open(rt, "card.dat")?;
+    fill(&mut file, card)
+}
+
 // The basin of card.dat. A card that cannot be read counts as one of no bytes.
-fn opened(rt: &HostRuntime) -> Result<CardBasin, Refusal> {
+fn opened(rt: &impl Files) -> Result<CardBasin, Refusal> {
     let mut card = [0u8; CARD];
-    let got = match fs::open(rt, "card.dat") {
-        Ok(mut file) => fill(&mut file, &mut card).unwrap_or(0),
-        Err(_) => 0,
-    };
-    open(&card[0..got])
+    let got = read_card(rt, &mut card).unwrap_or(0);
+    open(&card[..got])
 }
 
 // Prints the line of a refused card.
 fn refuse<W: Write>(refusal: Refusal, output: &mut W) -> io::Result<()> {
     let mut page = [0u8; 192];
-    match Line::Refused(refusal.notice()).write(&mut page) {
-        Ok(size) => output.write_all(&page[0..size]),
-        Err(_) => unreachable(),
-    }
-}
-
-// The whole of the program's work.
-fn work(rt: &HostRuntime) -> anyhow::Result<()> {
-    let mut output = rt.stdout();
-    match opened(rt) {
-        Ok(mut basin) => run(&mut basin, &mut rt.stdin(), &mut output)?,
-        Err(refusal) => refuse(refusal, &mut output)?,
-    }
-    Ok(())
+    let Ok(size) = Line::Refused(refusal.notice()).write(&mut page) else {
+        unreachable()
+    };
+    output.write_all(&page[..size])
 }
 
 // An input that cannot be read or an output that cannot be written ends the program with a message and status 1.
 fn main(rt: HostRuntime) -> anyhow::Result<()> {
-    work(&rt)
+    let mut output = rt.stdout();
+    match opened(&rt) {
+        Ok(mut basin) => run(&mut basin, &mut rt.stdin(), &mut output)?,
+        Err(refusal) => refuse(refusal, &mut output)?,
+    }
+    Ok(())
 }
