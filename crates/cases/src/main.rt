@@ -1,8 +1,6 @@
 // Stored cases: cards and feeds, good and damaged, held against the lines that a second engine gave for them.
 #![tactic(auto)]
 
-ghost use Rattle.std.specs.Prelude.{◌≡◌, ℕ, length};
-
 use crate::packed::{Case, Packed};
 use banks::Bank;
 use basin::Basin;
@@ -10,7 +8,7 @@ use lines::Line;
 use posting::{open, post_block};
 use refusals::Refusal;
 use std::fs;
-use storages::{Storage, Tapped};
+use storages::Tapped;
 
 mod packed;
 

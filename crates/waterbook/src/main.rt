@@ -1,7 +1,7 @@
 // waterbook: reads card.dat and a feed from standard input, and prints a line for each record.
 #![tactic(auto)]
 
-ghost use Rattle.std.specs.Prelude.{ℕ, ◌≤◌, length, IfOk};
+ghost use Rattle.std.specs.Prelude.{◌≤◌, length, IfOk};
 
 use banks::Bank;
 use basin::Basin;
@@ -11,7 +11,7 @@ use refusals::Refusal;
 use std::io::{Read, Write};
 use std::rt::Files;
 use std::{fs, io};
-use storages::{Storage, Tapped};
+use storages::Tapped;
 
 // Bytes of a block of records, and of the page of their lines: 192 for each record of sixteen.
 const BLOCK: usize = 16_384;
