@@ -1,5 +1,5 @@
 // The clerk's own tally: sums of the calls and their answers, kept without a look at the basin.
-ghost use Rattle.std.specs.Prelude.{◌≡◌, ℕ, ◌+◌, ◌<◌, ◌^◌, ◌↔◌, IfSome, IsSome};
+ghost use Rattle.std.specs.Prelude.{◌≡◌, ◌+◌, ◌<◌, ◌^◌, ◌↔◌, IfSome, IsSome};
 ghost use Rattle.basin.specs.Law.{fresh};
 ghost use Rattle.irrigation.specs.Tallies.{added_by, closed_by, Fits};
 
