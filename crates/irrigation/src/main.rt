@@ -104,7 +104,7 @@ impl<'a, R: Print, B: Bank, C: Tapped> Clerk<'a, R, B, C> {
         Ok(())
     }
 
-    // The pump takes water from the channel.
+    // The pump takes water from the channel. The draw is tallied first: where that fails, no parcel is at hand.
     fn draw(&mut self, amount: u64) -> anyhow::Result<Option<Parcel>> {
         println!(self.rt; "the pump asks for {amount}")?;
         let tallied = self.tallied(Granted::Draw(amount))?;

@@ -80,11 +80,10 @@ impl Tally {
 }
 
 // A granted call, added to sums. None where one grows too large.
-fn add(sums: Sums, call: Granted) -> Option<Sums>
+fn add(mut sums: Sums, call: Granted) -> Option<Sums>
     ensures fits { IsSome result ↔ Fits (added_by call sums) }
     ensures value { IfSome result (λ s. s ≡ added_by call sums) }
 {
-    let mut sums = sums;
     match call {
         Granted::Rain {
             area,

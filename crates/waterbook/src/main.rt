@@ -22,7 +22,7 @@ const PAGE: usize = 196_608;
 const CARD: usize = 281;
 
 // Reads until the block is full or the input ends; answers how many bytes came.
-fn fill<R: Read>(input: &mut R, block: &mut [u8]) -> io::Result<usize>
+fn fill(input: &mut impl Read, block: &mut [u8]) -> io::Result<usize>
     ensures { IfOk result (λ n. n ≤ length block.old) }
 {
     let mut got = 0;
@@ -37,10 +37,10 @@ fn fill<R: Read>(input: &mut R, block: &mut [u8]) -> io::Result<usize>
 }
 
 // Posts the whole feed on a basin, block by block, and prints the lines.
-fn run<B: Bank, C: Tapped, R: Read, W: Write>(
+fn run<B: Bank, C: Tapped>(
     basin: &mut Basin<B, C>,
-    input: &mut R,
-    output: &mut W,
+    input: &mut impl Read,
+    output: &mut impl Write,
 ) -> io::Result<()> {
     let mut block = [0u8; BLOCK];
     let mut page = [0u8; PAGE];
@@ -74,7 +74,7 @@ fn opened(rt: &impl Files) -> Result<CardBasin, Refusal> {
 }
 
 // Prints the line of a refused card.
-fn refuse<W: Write>(refusal: Refusal, output: &mut W) -> io::Result<()> {
+fn refuse(refusal: Refusal, output: &mut impl Write) -> io::Result<()> {
     let mut page = [0u8; 192];
     let Ok(size) = Line::Refused(refusal.notice()).write(&mut page) else {
         unreachable()
