@@ -1,7 +1,7 @@
 // A river through one wet day: what flows in, what flows out, what goes deep, what is drawn, what is held.
 #![tactic(auto)]
 
-use anyhow::anyhow;
+use anyhow::bail;
 use nesting::{River, new_river, pump};
 use storages::Storage;
 
@@ -17,7 +17,7 @@ const HUNDREDTH: u64 = 1_660_000;
 const ASKED: u64 = 20_000_000;
 
 // One hour of the river, told in words.
-fn tell(rt: &HostRuntime, hour: usize, inflow: u64, river: &mut River) -> anyhow::Result<()> {
+fn tell(rt: &impl Print, hour: usize, inflow: u64, river: &mut River) -> anyhow::Result<()> {
     let asked = if hour % 4 == 0 { ASKED } else { 0 };
     let Ok((release, deep, drawn)) = pump(river, inflow, asked) else {
         println!(rt; "hour {hour}: {inflow} are refused, the river is full")?;
@@ -33,21 +33,17 @@ fn tell(rt: &HostRuntime, hour: usize, inflow: u64, river: &mut River) -> anyhow
 }
 
 // The day, hour by hour from 1.
-fn day(rt: &HostRuntime, river: &mut River) -> anyhow::Result<()> {
+fn day(rt: &impl Print, river: &mut River) -> anyhow::Result<()> {
     for (hour, hundredths) in RAIN.iter().enumerate() {
         tell(rt, hour + 1, u64::from(*hundredths) * HUNDREDTH, river)?;
     }
     Ok(())
 }
 
-fn run(rt: &HostRuntime) -> anyhow::Result<()> {
+fn main(rt: HostRuntime) -> anyhow::Result<()> {
     let weights = [104_858, 157_286, 262_144, 262_144, 157_286, 104_858];
     let Ok(mut river) = new_river(157_286, 524_288, &weights, 10_486, 8_000_000_000_000) else {
-        return Err(anyhow!("the river's figures are outside their limits"));
+        bail!("the river's figures are outside their limits");
     };
-    day(rt, &mut river)
-}
-
-fn main(rt: HostRuntime) -> anyhow::Result<()> {
-    run(&rt)
+    day(&rt, &mut river)
 }

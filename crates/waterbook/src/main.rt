@@ -1,7 +1,7 @@
 // waterbook: reads card.dat and a feed from standard input, and prints a line for each record.
 #![tactic(auto)]
 
-ghost use Rattle.std.specs.Prelude.{ℕ, ◌≤◌, length, IfOk};
+ghost use Rattle.std.specs.Prelude.{◌≤◌, length, IfOk};
 
 use banks::Bank;
 use basin::Basin;
@@ -9,8 +9,9 @@ use lines::Line;
 use posting::{CardBasin, open, post_block};
 use refusals::{Notice, Refusal};
 use std::io::{Read, Write};
+use std::rt::Files;
 use std::{fs, io};
-use storages::{Storage, Tapped};
+use storages::Tapped;
 
 // Bytes of a block of records, and of the page of their lines: 192 for each record of sixteen.
 const BLOCK: usize = 16_384;
@@ -21,7 +22,7 @@ const PAGE: usize = 196_608;
 const CARD: usize = 281;
 
 // Reads until the block is full or the input ends; answers how many bytes came.
-fn fill<R: Read>(input: &mut R, block: &mut [u8]) -> io::Result<usize>
+fn fill(input: &mut impl Read, block: &mut [u8]) -> io::Result<usize>
     ensures { IfOk result (λ n. n ≤ length block.old) }
 {
     let mut got = 0;
@@ -36,19 +37,18 @@ fn fill<R: Read>(input: &mut R, block: &mut [u8]) -> io::Result<usize>
 }
 
 // Posts the whole feed on a basin, block by block, and prints the lines.
-fn run<B: Bank, C: Tapped, R: Read, W: Write>(
+fn run<B: Bank, C: Tapped>(
     basin: &mut Basin<B, C>,
-    input: &mut R,
-    output: &mut W,
+    input: &mut impl Read,
+    output: &mut impl Write,
 ) -> io::Result<()> {
     let mut block = [0u8; BLOCK];
     let mut page = [0u8; PAGE];
+    // An input may have no end, so the blocks are counted.
     for _ in 0..u64::MAX {
         let got = fill(input, &mut block)?;
-        match post_block(basin, &block[0..got], &mut page) {
-            Ok(size) => output.write_all(&page[0..size])?,
-            Err(_) => unreachable(),
-        }
+        let size = post_block(basin, &block[..got], &mut page).unwrap();
+        output.write_all(&page[..size])?;
         if got < BLOCK {
             break;
         }
@@ -56,36 +56,36 @@ fn run<B: Bank, C: Tapped, R: Read, W: Write>(
     Ok(())
 }
 
+// Reads card.dat; answers how many bytes came.
+fn read_card(rt: &impl Files, card: &mut [u8]) -> io::Result<usize>
+    ensures { IfOk result (λ n. n ≤ length card.old) }
+{
+    let mut file = fs::open(rt, "card.dat")?;
+    fill(&mut file, card)
+}
+
 // The basin of card.dat. A card that cannot be read counts as one of no bytes.
-fn opened(rt: &HostRuntime) -> Result<CardBasin, Refusal> {
+fn opened(rt: &impl Files) -> Result<CardBasin, Refusal> {
     let mut card = [0u8; CARD];
-    let got = match fs::open(rt, "card.dat") {
-        Ok(mut file) => fill(&mut file, &mut card).unwrap_or(0),
-        Err(_) => 0,
-    };
-    open(&card[0..got])
+    let got = read_card(rt, &mut card).unwrap_or(0);
+    open(&card[..got])
 }
 
 // Prints the line of a refused card.
-fn refuse<W: Write>(refusal: Refusal, output: &mut W) -> io::Result<()> {
+fn refuse(refusal: Refusal, output: &mut impl Write) -> io::Result<()> {
     let mut page = [0u8; 192];
-    match Line::Refused(Notice::from(refusal)).write(&mut page) {
-        Ok(size) => output.write_all(&page[0..size]),
-        Err(_) => unreachable(),
-    }
-}
-
-// The whole of the program's work.
-fn work(rt: &HostRuntime) -> anyhow::Result<()> {
-    let mut output = rt.stdout();
-    match opened(rt) {
-        Ok(mut basin) => run(&mut basin, &mut rt.stdin(), &mut output)?,
-        Err(refusal) => refuse(refusal, &mut output)?,
-    }
-    Ok(())
+    let size = Line::Refused(Notice::from(refusal))
+        .write(&mut page)
+        .unwrap();
+    output.write_all(&page[..size])
 }
 
 // An input that cannot be read or an output that cannot be written ends the program with a message and status 1.
 fn main(rt: HostRuntime) -> anyhow::Result<()> {
-    work(&rt)
+    let mut output = rt.stdout();
+    match opened(&rt) {
+        Ok(mut basin) => run(&mut basin, &mut rt.stdin(), &mut output)?,
+        Err(refusal) => refuse(refusal, &mut output)?,
+    }
+    Ok(())
 }
