@@ -1,12 +1,11 @@
 -- What the hours of a delay hold in all.
-use Rattle.std.proofs.Common.{◌≡◌, ℕ, zero, suc, ◌+◌, ◌-◌, ◌<◌, ◌≤◌, max, List, [], ◌∷◌, ◌++◌, length, get_or, take, drop, set, replicate, sum, sym, refl, ap, ◌∙◌, subst, add-one, arith, lit<}
+use Rattle.std.proofs.Common.{◌≡◌, ℕ, zero, suc, ◌+◌, ◌-◌, ◌<◌, ◌≤◌, max, List, ◌++◌, length, get_or, replicate, sum, sym, refl, ap, ◌∙◌, subst, add-one, arith, lit<}
 use Rattle.std.proofs.lemmas.List.FromFn.{fill_by_all}
-use Rattle.std.proofs.lemmas.List.{drop-set-lt, take_more_set}
-use Rattle.std.proofs.lemmas.List.Sums.{sum_by-append, sum_by_push, sum_by-drop_more}
+use Rattle.std.proofs.lemmas.List.Sums.{sum_by-append}
 use Rattle.figures.specs.Portions.{first, portion}
 use Rattle.figures.proofs.Portions.{total, total_more, first_more, first_all, differences_add, portions_whole}
 use Rattle.storages.specs.Meaning.{whole}
-use Rattle.delay.specs.Hours.{longest, padded, added, nearer, drained}
+use Rattle.delay.specs.Hours.{longest, padded, added, drained}
 
 -- sums of functions that agree
 pub total_same : (f g : ℕ → ℕ) (k : ℕ) → ((j : ℕ) → j < k → f j ≡ g j) → total f k ≡ total g k
@@ -58,20 +57,6 @@ gains_total v n ws hs k m h p e =
 pub added_total : (v : ℕ) (ws hs : List ℕ) → length ws ≡ longest → length hs ≡ longest → sum ws ≡ whole → sum (added v ws hs) ≡ sum hs + v
 unfolding added
 added_total v ws hs m n e = gains_total v whole ws hs longest (omega arith) n (lit< tt) e
-
--- the soonest hour leaves
-pub nearer_total : (hs : List ℕ) → 0 < length hs → sum (nearer hs) + get_or hs 0 0 ≡ sum hs
-nearer_total hs h =
-    let a : sum (drop 1 hs ++ (0 ∷ [])) ≡ sum (drop 1 hs) + 0 = sum_by_push (λ x. x) (drop 1 hs) 0 in
-    let b : sum hs ≡ get_or hs 0 0 + sum (drop 1 hs) = sum_by-drop_more (λ x. x) hs 0 0 h in
-    omega arith
-
--- setting the first to 0 and turning the list is the same
-pub turned : (hs : List ℕ) → 0 < length hs → drop 1 (set hs 0 0) ++ take 1 (set hs 0 0) ≡ nearer hs
-turned hs h =
-    let a = drop-set-lt 1 hs 0 0 (lit< tt) in
-    let b : take 1 (set hs 0 0) ≡ 0 ∷ [] = take_more_set hs 0 0 h in
-    cc
 
 -- what an hour loses of a draw, by the sums of the hours up to it
 loses : (n a h b : ℕ) → b ≡ a + h → h - (n - a) ≡ max n b - max n a
