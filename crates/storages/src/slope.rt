@@ -39,7 +39,7 @@ fn runoff(rate: u64, full: u64) -> u64
     requires full { full ≤ slope_top }
     ensures { Runs rate full result }
 {
-    rate * full * root(full as u32) as u64 / 1_000_000_000
+    rate * full * u64::from(root(full as u32)) / 1_000_000_000
 }
 
 impl Storage for Slope {
