@@ -5,7 +5,7 @@ use Rattle.refusals.specs.declared.Refusal.TheVariants.{OpeningAboveCeiling, NoS
 use Rattle.storages.specs.Meaning.{Out}
 use Rattle.banks.specs.declared.tract.Tract.{Tract}
 use Rattle.banks.specs.Rows.{at, areas, volume, Rained}
-use Rattle.basin.specs.Law.{View, Entry, by_rain, by_turn, by_draw, by_pour, by_closing, by_question, held, fresh, added, page}
+use Rattle.basin.specs.Law.{View, Entry, by_rain, by_turn, by_draw, by_pour, by_closing, by_question, held, fresh, added, page, deepest, driest}
 use Rattle.basin.specs.declared.book.Book.{Book}
 use Rattle.basin.specs.declared.parcel.Parcel.{Parcel}
 
@@ -28,8 +28,8 @@ water_limits v water place = limit (held v + water) v.ceiling (BasinFull place)
 
 abbrev pub rain_limits : View → (k depth demand : ℕ) → List Limit
 rain_limits v k depth demand = limit (k + 1) (length v.tracts) (NoSuchSegment k)
-    ∷ limit depth 15000000 (RainAboveLimit k)
-    ∷ limit demand 1000000 (DemandAboveLimit k)
+    ∷ limit depth deepest (RainAboveLimit k)
+    ∷ limit demand driest (DemandAboveLimit k)
     ∷ limit ((at v.tracts k).content + depth) (at v.tracts k).ceiling (StorageFull k)
     ∷ water_limits v (fall v k depth) k
 

@@ -116,6 +116,13 @@ acre s k = slice_index (areas s.opened.tracts) k
 abbrev pub page : ℕ
 page = 1000000000000000
 
+-- the deepest rain of an hour, and the most that the air may take up in one
+abbrev pub deepest : ℕ
+deepest = 15000000
+
+abbrev pub driest : ℕ
+driest = 1000000
+
 -- a rain that would pass the segment's ceiling, the basin's ceiling or the book's limit
 abbrev pub Over : Story → ℕ → ℕ → Type 0
 Over s k depth = ((at s.stands.tracts k).ceiling < (at s.stands.tracts k).content + depth)
@@ -124,7 +131,7 @@ Over s k depth = ((at s.stands.tracts k).ceiling < (at s.stands.tracts k).conten
 -- what the next call may answer, and how it may leave the basin
 abbrev pub Rules : Story → Entry → View → Type 0
 Rules s (by_rain k depth demand (Ok o)) w = (o.1 ≤ demand * acre s k) × (Over s k depth → ⊥)
-Rules s (by_rain k depth demand (Err f)) w = (w ≡ s.stands) × (k < length s.opened.tracts → depth ≤ 15000000 → demand ≤ 1000000 → Over s k depth)
+Rules s (by_rain k depth demand (Err f)) w = (w ≡ s.stands) × (k < length s.opened.tracts → depth ≤ deepest → demand ≤ driest → Over s k depth)
 Rules s (by_turn flow deep) w = flow + deep ≤ s.stands.pocket + s.stands.channel
 Rules s (by_draw n (Ok p)) w = (p.amount ≡ n) × (0 < n) × (n ≤ s.stands.channel)
 Rules s (by_draw n (Err f)) w = (w ≡ s.stands) × (0 < n → s.stands.channel < n)

@@ -45,4 +45,7 @@ pub record NewRiver (u l : ℕ) (ws : List ℕ) (f m : ℕ) (s : RiverOf) : Type
   pub upper : s.below.above.above.rate.parts ≡ u
   pub lower : s.below.above.below.rate.parts ≡ l
   pub weights : s.below.below.weights ≡ padded ws
+  pub upper_ceiling : s.below.above.above.ceiling ≡ m
+  pub lower_ceiling : s.below.above.below.ceiling ≡ m
+  pub bed_ceiling : s.below.below.ceiling ≡ m
   pub loss : s.loss.parts ≡ f
