@@ -1,9 +1,8 @@
 // A block of records, posted one after the other onto a page of lines.
 ghost use Rattle.std.specs.Prelude.{◌≡◌, ℕ, ◌+◌, ◌*◌, ◌<◌, ◌≤◌, ◌++◌, length};
 ghost use Rattle.refusals.specs.Limits.{Answers};
-ghost use Rattle.basin.specs.Basins.{view};
-ghost use Rattle.posting.specs.Feeds.{count as count_of, page_limits, Filled};
-ghost use Rattle.posting.specs.Pages.{Put};
+ghost use Rattle.posting.specs.Feeds.{count as count_of, page_limits};
+ghost use Rattle.posting.specs.Pages.{Put, Blocked};
 
 use crate::record::post;
 use banks::Bank;
@@ -23,7 +22,7 @@ fn post_at<B: Bank, C: Tapped>(
     at: usize,
 ) -> usize
     requires { at + 192 ≤ length page.old }
-    ensures { Put (view B.Bank C.Storage basin.old) bytes.now page.old at result page.new (view B.Bank C.Storage basin.new) }
+    ensures { Put B.Bank C.Storage C.Tapped.own basin.old bytes.now page.old at result page.new basin.new }
 {
     post(basin, bytes, &mut page[at..]).unwrap()
 }
@@ -35,7 +34,7 @@ pub fn post_block<B: Bank, C: Tapped>(
     block: &[u8],
     page: &mut [u8],
 ) -> Result<usize, Refusal>
-    ensures { Answers (page_limits block.now page.old) result (λ n. Filled (view B.Bank C.Storage basin.old) block.now page.old n page.new (view B.Bank C.Storage basin.new)) ((basin.new ≡ basin.old) × (page.new ≡ page.old)) }
+    ensures { Answers (page_limits block.now page.old) result (λ n. Blocked B.Bank C.Storage C.Tapped.own basin.old block.now page.old n page.new basin.new) ((basin.new ≡ basin.old) × (page.new ≡ page.old)) }
 {
     if page.len() / ROOM < block.len().div_ceil(RECORD) {
         return Err(Refusal::ShortBuffer);
