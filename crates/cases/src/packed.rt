@@ -17,7 +17,10 @@ pub struct Packed<'a> {
 }
 
 impl<'a> Packed<'a> {
-    pub fn new(data: &'a [u8]) -> Packed<'a> {
+    // All cases of the data.
+    pub fn new(data: &'a [u8]) -> Packed<'a>
+        ensures { result.rest.now ≡ data.now }
+    {
         Packed { rest: data }
     }
 
