@@ -8,12 +8,12 @@ use figures::fraction::Fraction;
 // The most weights that a delay may have.
 pub(crate) const LONGEST: usize = 24;
 
-// The portion of an inflow between two sums of weights: a difference of quotients, so that all portions add up to the inflow.
-fn portion(inflow: u64, before: Fraction, after: Fraction) -> u64
-    requires { before.parts ≤ after.parts }
-    ensures { result ≡ inflow * after.parts / whole - inflow * before.parts / whole }
+// The portion of an inflow up to a sum of weights, above what fell before it.
+fn portion(inflow: u64, weights: Fraction, fallen: u64) -> u64
+    requires { fallen ≤ inflow * weights.parts / whole }
+    ensures { result ≡ inflow * weights.parts / whole - fallen }
 {
-    after.of(inflow) - before.of(inflow)
+    weights.of(inflow) - fallen
 }
 
 // The sum of the weights, or the greatest number of 64 bits where it is more.
@@ -38,7 +38,7 @@ pub(crate) fn padded(weights: &[u64]) -> [u64; LONGEST]
     all
 }
 
-// The hours with an inflow added by the weights.
+// The hours with an inflow added by the weights: each portion is a difference of quotients, so that all add up to the inflow.
 pub(crate) fn spread(hours: [u64; LONGEST], weights: &[u64; LONGEST], inflow: u64) -> [u64; LONGEST]
     requires whole { sum weights.now ≡ whole }
     requires room { sum hours + inflow ≤ top }
@@ -47,11 +47,13 @@ pub(crate) fn spread(hours: [u64; LONGEST], weights: &[u64; LONGEST], inflow: u6
 {
     let mut full = hours;
     let mut before = Fraction { parts: 0 };
+    let mut fallen = 0;
     for (j, weight) in weights.iter().enumerate() {
         let after = Fraction {
             parts: before.parts + *weight,
         };
-        full[j] += portion(inflow, before, after);
+        full[j] += portion(inflow, after, fallen);
+        fallen = after.of(inflow);
         before = after;
     }
     full

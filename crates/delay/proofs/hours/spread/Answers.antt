@@ -13,5 +13,5 @@ returns c =
     let v : ℕ = c.args.inflow in
     let ws = c.args.weights.now in
     let hs = c.args.hours in
-    let e = fill_by_all (λ k. get_or hs k 0 + portion v whole ws k) c.loop-j.full longest 0 c.loop-j.invariant.1 (λ k l. c.loop-j.invariant.2 k (omega arith)) in
+    let e = fill_by_all (λ k. get_or hs k 0 + portion v whole ws k) c.loop-j.full longest 0 c.loop-j.invariant.2 (λ k l. c.loop-j.invariant.3 k (omega arith)) in
     record { hours = e; total = ap sum e ∙ added_total v ws hs (omega arith) (omega arith) c.requires.whole }
