@@ -80,9 +80,10 @@ fn by_letter(letter: u8, segment: u8, rest: &[u8; 14]) -> Result<Event, Refusal>
     }
 }
 
-// The event of a record, or the first rule that it breaks: two bytes and then fourteen, or it is not one.
-pub fn read(bytes: &[u8]) -> Result<Event, Refusal>
-    ensures value { result ≡ reading bytes.now }
+// A record of sixteen bytes, taken apart.
+fn event_of(bytes: &[u8]) -> Result<Event, Refusal>
+    requires { length bytes.now ≡ 16 }
+    ensures value { result ≡ lettered bytes.now }
     ensures layout { IfOk result (λ e. bytes.now ≡ record_of e) }
 {
     let [letter, segment, rest @ ..] = bytes else {
@@ -92,6 +93,17 @@ pub fn read(bytes: &[u8]) -> Result<Event, Refusal>
         return Err(Refusal::RecordLength);
     };
     by_letter(*letter, *segment, rest)
+}
+
+// The event of a record, or the first rule that it breaks.
+pub fn read(bytes: &[u8]) -> Result<Event, Refusal>
+    ensures value { result ≡ reading bytes.now }
+    ensures layout { IfOk result (λ e. bytes.now ≡ record_of e) }
+{
+    if bytes.len() != 16 {
+        return Err(Refusal::RecordLength);
+    }
+    event_of(bytes)
 }
 
 #[cfg(test)]
