@@ -52,6 +52,36 @@ impl<F: Bank, S: Bank> Pair<F, S> {
         }
         None
     }
+
+    // Rain on segment k of the first bank. A refusal names `segment`.
+    fn rain_on_first(
+        &mut self,
+        k: u64,
+        depth: u64,
+        demand: u64,
+        segment: u64,
+    ) -> Result<(u64, u64, u64), Refusal>
+        requires { k < length (F.Bank.tracts self.old.first) }
+        ensures rains { Answers (room_limits (F.Bank.tracts self.old.first) k depth segment) result (λ o. F.Bank.rains self.old.first k depth demand o self.new.first) (self.new.first ≡ self.old.first) }
+        ensures other { self.new.second ≡ self.old.second }
+    {
+        rain_there(&mut self.first, k, depth, demand, segment)
+    }
+
+    // Rain on segment k of the second bank. A refusal names `segment`.
+    fn rain_on_second(
+        &mut self,
+        k: u64,
+        depth: u64,
+        demand: u64,
+        segment: u64,
+    ) -> Result<(u64, u64, u64), Refusal>
+        requires { k < length (S.Bank.tracts self.old.second) }
+        ensures rains { Answers (room_limits (S.Bank.tracts self.old.second) k depth segment) result (λ o. S.Bank.rains self.old.second k depth demand o self.new.second) (self.new.second ≡ self.old.second) }
+        ensures other { self.new.first ≡ self.old.first }
+    {
+        rain_there(&mut self.second, k, depth, demand, segment)
+    }
 }
 
 impl<F: Bank, S: Bank> Bank for Pair<F, S> {
@@ -91,8 +121,8 @@ impl<F: Bank, S: Bank> Bank for Pair<F, S> {
     // A refusal names the pair's own segment.
     fn rain(&mut self, segment: u64, depth: u64, demand: u64) -> Result<(u64, u64, u64), Refusal> {
         match self.place(segment) {
-            Some(Place::First(k)) => rain_there(&mut self.first, k, depth, demand, segment),
-            Some(Place::Second(k)) => rain_there(&mut self.second, k, depth, demand, segment),
+            Some(Place::First(k)) => self.rain_on_first(k, depth, demand, segment),
+            Some(Place::Second(k)) => self.rain_on_second(k, depth, demand, segment),
             None => Err(Refusal::NoSuchSegment(segment)),
         }
     }
