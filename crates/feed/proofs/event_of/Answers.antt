@@ -1,5 +1,5 @@
 -- What the pattern took is the record.
-use Rattle.std.proofs.Common.{ap, ◌∙◌, rules}
+use Rattle.std.proofs.Common.{ap, ◌∙◌}
 use Rattle.feed.specs.Reading.{lettered}
 use Rattle.feed.proofs.Layouts.{read_layout}
 use Rattle.feed.proofs.Records.{taken_apart}

@@ -1,5 +1,5 @@
 -- A pair's rain is that of the bank which has the segment.
-use Rattle.std.proofs.Common.{◌++◌, Some, inl, inr, refl, subst, arith}
+use Rattle.std.proofs.Common.{◌++◌, Some, inl, inr, subst, arith}
 use Rattle.banks.specs.Kinds.{Placed}
 use Rattle.banks.specs.declared.pair.Place.TheVariants.{First, Second}
 use Rattle.banks.proofs.Rains.{same_pair, rains_there}
